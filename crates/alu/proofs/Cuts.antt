@@ -1,0 +1,62 @@
+-- What masks and shifts leave of a block of one of the widths. Assumes nothing.
+use mathlib.Core.Path.{_≡_, refl, sym, ap, _∙_}
+use Prim.Native.Nat.{ℕ, _+_, _-_, _*_, _/_, _%_, _^_, _≤_, _<_}
+use native.Mathlib.Nat.{mod-lt}
+use native.Mathlib.Omega.{arith}
+use lib.Bits.{bitAnd, and-mask}
+use lib.Pow.{pow-pos, ones-split, ones-lt, high}
+use Rattle.base.proofs.Widths.{is-width}
+use Rattle.base.specs.declared.width.Width.{Width}
+use Rattle.base.specs.declared.width.Width.the-variants.{Byte, Half, Word, Double}
+use Rattle.base.specs.Words.{bits, IsWidth}
+use Rattle.alu.specs.Blocks.{difference, even, odd, distance, tops}
+
+cut : {r : ℕ} → IsWidth r → (n : ℕ) → n % 2 ^ 64 % 2 ^ r ≡ n % 2 ^ r
+cut R n = grind arith
+
+-- the low bits of what a sum or a shift leaves in 64
+pub low-bits : (w : Width) (n m : ℕ) → m ≡ 2 ^ bits w - 1 → bitAnd (n % 2 ^ 64) m ≡ n % 2 ^ bits w
+low-bits w n m is = rw is (and-mask (n % 2 ^ 64) (bits w) ∙ cut (is-width w) n)
+
+borrowed : {r : ℕ} → IsWidth r → (p q : ℕ) → q < 2 ^ 64 → (p + (2 ^ 64 - q)) % 2 ^ r ≡ (p + (2 ^ r - q % 2 ^ r)) % 2 ^ r
+borrowed R p q h = grind arith
+
+-- and what a difference leaves
+pub low-difference : (w : Width) (p q m : ℕ) → q < 2 ^ 64 → m ≡ 2 ^ bits w - 1 → bitAnd ((p + (2 ^ 64 - q)) % 2 ^ 64) m ≡ difference (bits w) p q
+low-difference w p q m h is = low-bits w (p + (2 ^ 64 - q)) m is ∙ borrowed (is-width w) p q h
+
+half-ones : (w : Width) → (2 ^ bits w - 1) / 2 ^ (bits w / 2) ≡ 2 ^ (bits w / 2) - 1
+half-ones Byte = refl
+half-ones Half = refl
+half-ones Word = refl
+half-ones Double = refl
+
+pub lower-half : (w : Width) (p m n : ℕ) → m ≡ 2 ^ bits w - 1 → n ≡ bits w → bitAnd p (m / 2 ^ (n / 2)) ≡ odd (bits w) p
+lower-half w p m n is at = rw (is, at, half-ones w) (and-mask p (bits w / 2))
+
+pub half-below : (w : Width) (p : ℕ) → p % 2 ^ (bits w / 2) < 2 ^ 32
+half-below Byte p = omega arith
+half-below Half p = omega arith
+half-below Word p = omega arith
+half-below Double p = omega arith
+
+pub shift-distance : (w : Width) (q : ℕ) → bitAnd q (bits w - 1) ≡ distance (bits w) q
+shift-distance Byte q = and-mask q 3
+shift-distance Half q = and-mask q 4
+shift-distance Word q = and-mask q 5
+shift-distance Double q = and-mask q 6
+
+pub distance-below : (w : Width) (q : ℕ) → distance (bits w) q < bits w
+distance-below Byte q = omega arith
+distance-below Half q = omega arith
+distance-below Word q = omega arith
+distance-below Double q = omega arith
+
+-- the bits that all ones lose by a shift to the right
+pub lost : (r s : ℕ) → s ≤ r → (2 ^ r - 1) - (2 ^ r - 1) / 2 ^ s ≡ tops r s
+lost r s h =
+    let d : ℕ = r - s in
+    let at : r ≡ d + s = omega arith in
+    let rest : (2 ^ r - 1) / 2 ^ s ≡ 2 ^ d - 1 =
+    ap (λ n. (2 ^ n - 1) / 2 ^ s) at ∙ ap (λ n. n / 2 ^ s) (ones-split d s) ∙ high (2 ^ d - 1) s (ones-lt s) in
+    rw rest (omega (arith, pow-pos d))

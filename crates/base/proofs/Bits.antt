@@ -1,0 +1,105 @@
+-- Masks and shifts on words, by their fields.
+use mathlib.Core.Path.{_≡_, refl, sym, ap, ap₂, subst, _∙_}
+use mathlib.Core.Bool.{Bool, true, false, cond, _&&_}
+use mathlib.Core.Logic.{inl, inr}
+use Prim.Native.Nat.{ℕ, zero, suc, _+_, _-_, _*_, _/_, _%_, _^_, _≤_, _<_}
+use native.Mathlib.Nat.{mod-mod, mod-lt, sub-self, sub-zero, lt-of-le-of-lt, lt-of-lt-of-le, mul-assoc}
+use native.Mathlib.Numerals.{add-one}
+use native.Mathlib.Omega.{arith}
+use lib.Bits.{bitAnd, bitOr, and-mask, and-zero-r, or-zero-l, or-zero-r, or-lt, and-le-l}
+use lib.Dec.{eqb}
+use lib.Pow.{pow-pos, pow-mono, pow-add, ones-lt}
+use Rattle.std.proofs.shelf.Bits.{shl-whole, shl-below}
+use Rattle.std.proofs.shelf.Tests.{cases-eq}
+use Rattle.std.proofs.shelf.Ways.{decides-below-and, decides-eqb}
+use Rattle.base.specs.Words.{IsWidth, field, gathered, word, put, named, masked}
+use Rattle.base.proofs.Digits.{gathered-lt}
+use Rattle.base.proofs.Fields.{byte, field-and, field-or, field-not, field-low64, field-shl, field-shl-other, field-word, same-fields, word-from-fields, word-lt, put-same, put-other}
+
+-- x holds the first n fields of f
+pub record Joined (w : ℕ) (f : ℕ → ℕ) (n x : ℕ) : Type 0 where
+  pub is : x ≡ gathered w n f
+
+pub joined-none : {w : ℕ} {f : ℕ → ℕ} → Joined w f 0 0
+unfolding gathered
+joined-none = record { is = refl }
+
+module _ {w : ℕ} (W : IsWidth w) where
+  -- x with its field i cleared, and v moved to the field's place
+  pub put-bits : (i v x : ℕ) → i < 64 / w → v < 2 ^ w → x < 2 ^ 64
+      → bitOr (bitAnd x (2 ^ 64 - 1 - (2 ^ w - 1) * 2 ^ (64 - w * suc i) % 2 ^ 64)) (v * 2 ^ (64 - w * suc i) % 2 ^ 64) ≡ put w i v x
+  put-bits i v x h lt xlt =
+      let s : ℕ = 64 - w * suc i in
+      let m : ℕ = (2 ^ w - 1) * 2 ^ s % 2 ^ 64 in
+      let u : ℕ = v * 2 ^ s % 2 ^ 64 in
+      let kept : ℕ = bitAnd x (2 ^ 64 - 1 - m) in
+      let mlt : m < 2 ^ 64 = mod-lt ((2 ^ w - 1) * 2 ^ s) (pow-pos 64) in
+      let olt : 2 ^ w - 1 < 2 ^ w = ones-lt w in
+      same-fields W (bitOr kept u) (put w i v x)
+      (or-lt 64 kept u (lt-of-le-of-lt (and-le-l x (2 ^ 64 - 1 - m)) xlt) (mod-lt (v * 2 ^ s) (pow-pos 64)))
+      (word-lt W (λ j. cond (eqb j i) v (field w j x)))
+      (λ k g. elim (cases-eq k i) [
+        | inl e ↦ rw e (simp (field-or, field-and, field-not W, field-low64 W, field-shl W, put-same W, sub-self, and-zero-r, or-zero-l))
+        | inr ne ↦ simp (field-or, field-and, field-not W, field-low64 W, field-shl-other W, put-other W i k v x g (λ q. ne (sym q)), sub-zero, and-mask, or-zero-r, mod-mod)
+      ])
+
+  -- one field more, shifted in from below
+  room : (i : ℕ) → i < 64 / w → w * i + (w - 1) + 1 ≤ 64
+  room i h = grind arith
+
+  doubled : (x : ℕ) → x * 2 ^ (w - 1) * 2 ≡ x * 2 ^ w
+  doubled x =
+      let up : w - 1 + 1 ≡ w = grind arith in
+      mul-assoc x (2 ^ (w - 1)) 2 ∙ ap (λ n. x * n) (sym (pow-add 2 (w - 1) 1)) ∙ ap (λ n. x * 2 ^ n) up
+
+  pub joined-more : {f : ℕ → ℕ} {i n x v m : ℕ} → Joined w f i x → i < n → n ≡ 64 / w → v ≡ f i → m ≡ 2 ^ w - 1
+      → Joined w f (i + 1) (x * 2 ^ (w - 1) % 2 ^ 64 * 2 % 2 ^ 64 + bitAnd v m)
+  unfolding gathered
+  joined-more {f} {i} {n} {x} {v} {m} at test end is ones =
+      let h : i < 64 / w = omega arith in
+      let below : x < 2 ^ (w * i) = subst (λ y. y < 2 ^ (w * i)) (sym (at .is)) (gathered-lt w i f) in
+      let once : x * 2 ^ (w - 1) % 2 ^ 64 ≡ x * 2 ^ (w - 1) = shl-whole x (w * i) (w - 1) 64 below (omega (arith, room i h)) in
+      let twice : x * 2 ^ (w - 1) * 2 % 2 ^ 64 ≡ x * 2 ^ (w - 1) * 2 =
+      shl-whole (x * 2 ^ (w - 1)) (w * i + (w - 1)) 1 64 (shl-below x (w * i) (w - 1) below) (room i h) in
+      record { is = rw (add-one, ones) (ap₂ (λ n m. n + m) (ap (λ n. n * 2 % 2 ^ 64) once ∙ twice ∙ doubled x ∙ ap (λ n. n * 2 ^ w) (at .is)) (and-mask v w ∙ ap (λ n. n % 2 ^ w) is)) }
+
+  pub joined-fits : {f : ℕ → ℕ} {i n x : ℕ} → Joined w f (i + 1) x → i < n → n ≡ 64 / w → x < 2 ^ 64
+  joined-fits {f} {i} at test end =
+      let h : i < 64 / w = omega arith in
+      let small : w * (i + 1) ≤ 64 = grind arith in
+      rw (at .is) (lt-of-lt-of-le (gathered-lt w (i + 1) f) (pow-mono small))
+
+  pub joined-all : {f : ℕ → ℕ} {i n x : ℕ} → Joined w f i x → i ≤ n → n ≤ i → n ≡ 64 / w → x ≡ word w f
+  unfolding word
+  joined-all {f} {i} at low high end = let all : i ≡ 64 / w = omega arith in at .is ∙ ap (λ k. gathered w k f) all
+
+-- ---- a mask by bytes
+
+-- the bytes of a word that the mask m names, all ones
+abbrev pub bytes : ℕ → ℕ
+bytes m = bitAnd (bitAnd (m * 0x0101_0101_0101_0101) 0x8040_2010_0804_0201 + 0x7f7f_7f7f_7f7f_7f7f) 0x8080_8080_8080_8080 / 128 * 255
+
+abbrev pub named-bytes : ℕ → ℕ
+named-bytes m = word 8 (λ i. cond (named m i) 255 0)
+
+-- the rule of `bytes`, tested at each mask below n
+abbrev agree : ℕ → Bool
+agree zero = true
+agree (suc m) = eqb (bytes m) (named-bytes m) && agree m
+
+pub bytes-are : (m : ℕ) → m < 256 → bytes m ≡ named-bytes m
+unfolding word gathered
+bytes-are = decides-below-and (λ m. eqb (bytes m) (named-bytes m)) (λ m. bytes m ≡ named-bytes m) agree (λ m. decides-eqb (bytes m) (named-bytes m)) refl (λ _. refl) 256 .0 refl
+
+choose : (b : Bool) (p q : ℕ) → bitOr (bitAnd p (cond b 255 0 % 256)) (bitAnd q (255 - cond b 255 0 % 256)) ≡ cond b p q % 256
+choose true p q = simp (and-zero-r, or-zero-r, and-mask p 8)
+choose false p q = simp (and-zero-r, or-zero-l, and-mask q 8)
+
+pub merge-bits : (m x old b : ℕ) → x < 2 ^ 64 → old < 2 ^ 64 → b < 2 ^ 64 → b ≡ named-bytes m → bitOr (bitAnd x b) (bitAnd old (2 ^ 64 - 1 - b)) ≡ masked m x old
+merge-bits m x old b hx ho hb e =
+    let rest : ℕ = 2 ^ 64 - 1 - b in
+    word-from-fields byte (λ i. cond (named m i) (field 8 i x) (field 8 i old)) (bitOr (bitAnd x b) (bitAnd old rest))
+    (or-lt 64 (bitAnd x b) (bitAnd old rest) (lt-of-le-of-lt (and-le-l x b) hx) (lt-of-le-of-lt (and-le-l old rest) ho))
+    (λ i h.
+    let at : field 8 i b ≡ cond (named m i) 255 0 % 256 = ap (field 8 i) e ∙ field-word byte (λ k. cond (named m k) 255 0) i h in
+    simp (field-or, field-and, field-not byte, at, choose))

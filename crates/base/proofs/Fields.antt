@@ -1,0 +1,106 @@
+-- The fields of a word: how they are read, written and joined.
+use mathlib.Core.Path.{_≡_, refl, sym, ap, ap₂, _∙_, subst}
+use mathlib.Core.Bool.{cond}
+use mathlib.Core.Logic.{inl}
+use Prim.Native.Nat.{ℕ, suc, _+_, _-_, _*_, _/_, _%_, _^_, _≤_, _<_}
+use native.Mathlib.Nat.{mod-mod, mod-lt, mod-eq-of-lt, div-add-mod'}
+use native.Mathlib.Omega.{arith}
+use lib.Arith.{digits-div}
+use lib.Bits.{bitAnd, bitOr, bitXor, and-shr, and-mod, or-shr, or-mod, xor-shr, xor-mod, xor-add-and, and-mask}
+use lib.Dec.{eqb}
+use lib.Pow.{pow-pos, shr-shr, ones-split, ones-lt, high, low}
+use Rattle.std.proofs.shelf.Tests.{eq-eqb, ne-eqb}
+use Rattle.base.specs.Words.{IsWidth, field, word, put, named, masked}
+use Rattle.base.proofs.Digits.{digit, gathered-digit, gathered-lt, same-digits, cut, digit-shl, digit-shl-other}
+
+pub byte : IsWidth 8
+byte = inl refl
+
+-- the fields fill the word
+pub whole : {w : ℕ} → IsWidth w → w * (64 / w) ≡ 64
+whole W = grind arith
+
+-- and, or and exclusive or act field by field
+pub field-and : (w i x y : ℕ) → field w i (bitAnd x y) ≡ bitAnd (field w i x) (field w i y)
+field-and w i x y = simp (and-shr, and-mod)
+
+pub field-or : (w i x y : ℕ) → field w i (bitOr x y) ≡ bitOr (field w i x) (field w i y)
+field-or w i x y = simp (or-shr, or-mod)
+
+pub field-xor : (w i x y : ℕ) → field w i (bitXor x y) ≡ bitXor (field w i x) (field w i y)
+field-xor w i x y = simp (xor-shr, xor-mod)
+
+not-xor : (n a : ℕ) → a < 2 ^ n → 2 ^ n - 1 - a ≡ bitXor a (2 ^ n - 1)
+not-xor n a h = omega (arith, xor-add-and a (2 ^ n - 1), and-mask a n, mod-eq-of-lt h)
+
+module _ {w : ℕ} (W : IsWidth w) where
+  -- the place of a field's lowest bit
+  place : (i d : ℕ) → i + suc d ≡ 64 / w → 64 - w * suc i ≡ w * d
+  place i d e = grind arith
+
+  field-digit : (i d x : ℕ) → i + suc d ≡ 64 / w → field w i x ≡ digit w d x
+  field-digit i d x e = ap (λ s. x / 2 ^ s % 2 ^ w) (place i d e)
+
+  pub field-word : (f : ℕ → ℕ) (i : ℕ) → i < 64 / w → field w i (word w f) ≡ f i % 2 ^ w
+  unfolding word
+  field-word f i h =
+      let d : ℕ = 64 / w - suc i in
+      field-digit i d (word w f) (omega arith) ∙ gathered-digit w i f (64 / w) d (omega arith)
+
+  pub word-lt : (f : ℕ → ℕ) → word w f < 2 ^ 64
+  unfolding word
+  word-lt f = subst (λ n. word w f < 2 ^ n) (whole W) (gathered-lt w (64 / w) f)
+
+  -- a word is known by its fields
+  pub same-fields : (x y : ℕ) → x < 2 ^ 64 → y < 2 ^ 64 → ((i : ℕ) → i < 64 / w → field w i x ≡ field w i y) → x ≡ y
+  same-fields x y hx hy same =
+      same-digits w (64 / w) x y (subst (λ n. x < 2 ^ n) (sym (whole W)) hx) (subst (λ n. y < 2 ^ n) (sym (whole W)) hy)
+      (λ d l.
+      let i : ℕ = 64 / w - suc d in
+      sym (field-digit i d x (omega arith)) ∙ same i (omega arith) ∙ field-digit i d y (omega arith))
+
+  pub word-from-fields : (f : ℕ → ℕ) (x : ℕ) → x < 2 ^ 64 → ((i : ℕ) → i < 64 / w → field w i x ≡ f i % 2 ^ w) → x ≡ word w f
+  word-from-fields f x h same = same-fields x (word w f) h (word-lt f) (λ i l. same i l ∙ sym (field-word f i l))
+
+  pub word-fields : (x : ℕ) → x < 2 ^ 64 → word w (λ i. field w i x) ≡ x
+  word-fields x h = sym (word-from-fields (λ i. field w i x) x h (λ i l. sym (mod-mod (x / 2 ^ (64 - w * suc i)) (2 ^ w))))
+
+  -- the bits below, in and above a field
+  split-at : (k : ℕ) → k < 64 / w → 64 ≡ w * k + w + (64 - w * suc k)
+  split-at k h = grind arith
+
+  pub field-low64 : (k x : ℕ) → k < 64 / w → field w k (x % 2 ^ 64) ≡ field w k x
+  field-low64 k x h =
+      let s : ℕ = 64 - w * suc k in
+      ap (λ n. x % 2 ^ n / 2 ^ s % 2 ^ w) (split-at k h) ∙ cut x (w * k) w s
+
+  -- a field alone in its word
+  pub field-shl : (i v : ℕ) → i < 64 / w → v < 2 ^ w → field w i (v * 2 ^ (64 - w * suc i)) ≡ v
+  field-shl i v h lt =
+      let d : ℕ = 64 / w - suc i in
+      let e : i + suc d ≡ 64 / w = omega arith in
+      field-digit i d (v * 2 ^ (64 - w * suc i)) e ∙ ap (λ s. digit w d (v * 2 ^ s)) (place i d e) ∙ digit-shl w d v lt
+
+  pub field-shl-other : (k i v : ℕ) → k < 64 / w → i < 64 / w → (k ≡ i → ⊥) → v < 2 ^ w → field w k (v * 2 ^ (64 - w * suc i)) ≡ 0
+  field-shl-other k i v h g ne lt =
+      let d : ℕ = 64 / w - suc k in
+      let e : ℕ = 64 / w - suc i in
+      field-digit k d (v * 2 ^ (64 - w * suc i)) (omega arith) ∙ ap (λ s. digit w d (v * 2 ^ s)) (place i e (omega arith))
+      ∙ digit-shl-other w d e v lt (λ q. ne (omega arith))
+
+  field-ones : (k : ℕ) → k < 64 / w → field w k (2 ^ 64 - 1) ≡ 2 ^ w - 1
+  field-ones k h =
+      let s : ℕ = 64 - w * suc k in
+      ap (λ n. (2 ^ n - 1) / 2 ^ s % 2 ^ w) (split-at k h)
+      ∙ rw (ones-split (w * k + w) s, high (2 ^ (w * k + w) - 1) s (ones-lt s), ones-split (w * k) w, low (2 ^ (w * k) - 1) w (ones-lt w))
+
+  pub field-not : (k a : ℕ) → k < 64 / w → a < 2 ^ 64 → field w k (2 ^ 64 - 1 - a) ≡ 2 ^ w - 1 - field w k a
+  field-not k a h lt =
+      ap (field w k) (not-xor 64 a lt) ∙ field-xor w k a (2 ^ 64 - 1) ∙ ap (bitXor (field w k a)) (field-ones k h)
+      ∙ sym (not-xor w (field w k a) (mod-lt (a / 2 ^ (64 - w * suc k)) (pow-pos w)))
+
+  pub put-same : (k v x : ℕ) → k < 64 / w → v < 2 ^ w → field w k (put w k v x) ≡ v
+  put-same k v x h lt = field-word (λ j. cond (eqb j k) v (field w j x)) k h ∙ simp (eq-eqb k k refl, mod-eq-of-lt)
+
+  pub put-other : (j k v x : ℕ) → k < 64 / w → (j ≡ k → ⊥) → field w k (put w j v x) ≡ field w k x
+  put-other j k v x h ne = field-word (λ i. cond (eqb i j) v (field w i x)) k h ∙ simp (ne-eqb k j (λ e. ne (sym e)), mod-mod)

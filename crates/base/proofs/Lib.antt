@@ -1,0 +1,4 @@
+pub mod Bits
+pub mod Digits
+pub mod Fields
+pub mod Widths
