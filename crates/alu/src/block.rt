@@ -1,20 +1,34 @@
-// Each function on one block; `reach` is the block's width.
+// Each function on one block of the two contents. A struct's width is the block's.
 ghost use mathlib.Core.Path.{_≡_};
 ghost use Prim.Native.Nat.{_+_, _-_, _*_, _/_, _%_, _^_, _<_};
-ghost use Rattle.alu.specs.Blocks.{sum, difference, even, odd, swapped, distance, shiftedLeft, shiftedRight, tops, shiftedSigned, quotient, remainder};
+ghost use Rattle.alu.specs.Blocks.{sum, difference, even, odd, swapped, distance, shiftedLeft, shiftedRight, shiftedSigned, quotient, remainder};
+ghost use Rattle.alu.specs.Roots.{rootOf};
 ghost use Rattle.base.specs.Words.{bits};
+use crate::roots::root;
+use base::FieldFunction;
 use base::Width;
 
-pub fn add(reach: Width, p: u64, q: u64) -> u64
-    ensures { λ r. ⌜ r ≡ sum (bits reach) p q ⌝ }
-{
-    p.wrapping_add(q) & reach.ones()
+// The sum, its carry dropped.
+#[derive(Clone, Copy)]
+pub struct Add(pub Width);
+
+pub impl FieldFunction for Add as AddFunction {
+    ghost meaning = { λ f. sum (bits (f .0)) };
+
+    fn apply(&self, p: u64, q: u64) -> u64 {
+        p.wrapping_add(q) & self.0.ones()
+    }
 }
 
-pub fn subtract(reach: Width, p: u64, q: u64) -> u64
-    ensures { λ r. ⌜ r ≡ difference (bits reach) p q ⌝ }
-{
-    p.wrapping_sub(q) & reach.ones()
+#[derive(Clone, Copy)]
+pub struct Subtract(pub Width);
+
+pub impl FieldFunction for Subtract as SubtractFunction {
+    ghost meaning = { λ f. difference (bits (f .0)) };
+
+    fn apply(&self, p: u64, q: u64) -> u64 {
+        p.wrapping_sub(q) & self.0.ones()
+    }
 }
 
 // The even subfield of a pair.
@@ -34,22 +48,39 @@ fn lower(reach: Width, p: u64) -> u64
     p & (reach.ones() >> (reach.bits() / 2))
 }
 
-pub fn multiply_even(reach: Width, p: u64, q: u64) -> u64
-    ensures { λ r. ⌜ r ≡ even (bits reach) p * even (bits reach) q ⌝ }
-{
-    upper(reach, p) * upper(reach, q)
+// The product of the even subfields of the pair that the block is.
+#[derive(Clone, Copy)]
+pub struct MultiplyEven(pub Width);
+
+pub impl FieldFunction for MultiplyEven as MultiplyEvenFunction {
+    ghost meaning = { λ f p q. even (bits (f .0)) p * even (bits (f .0)) q };
+
+    fn apply(&self, p: u64, q: u64) -> u64 {
+        upper(self.0, p) * upper(self.0, q)
+    }
 }
 
-pub fn multiply_odd(reach: Width, p: u64, q: u64) -> u64
-    ensures { λ r. ⌜ r ≡ odd (bits reach) p * odd (bits reach) q ⌝ }
-{
-    lower(reach, p) * lower(reach, q)
+// The product of the odd subfields.
+#[derive(Clone, Copy)]
+pub struct MultiplyOdd(pub Width);
+
+pub impl FieldFunction for MultiplyOdd as MultiplyOddFunction {
+    ghost meaning = { λ f p q. odd (bits (f .0)) p * odd (bits (f .0)) q };
+
+    fn apply(&self, p: u64, q: u64) -> u64 {
+        lower(self.0, p) * lower(self.0, q)
+    }
 }
 
-pub fn swap_halves(reach: Width, p: u64) -> u64
-    ensures { λ r. ⌜ r ≡ swapped (bits reach) p ⌝ }
-{
-    (lower(reach, p) << (reach.bits() / 2)) + upper(reach, p)
+#[derive(Clone, Copy)]
+pub struct SwapHalves(pub Width);
+
+pub impl FieldFunction for SwapHalves as SwapHalvesFunction {
+    ghost meaning = { λ f p q. swapped (bits (f .0)) p };
+
+    fn apply(&self, p: u64, _q: u64) -> u64 {
+        (lower(self.0, p) << (self.0.bits() / 2)) + upper(self.0, p)
+    }
 }
 
 // How far a shift by q goes.
@@ -60,38 +91,91 @@ fn distance(reach: Width, q: u64) -> u64
     q & (reach.bits() as u64 - 1)
 }
 
-pub fn shift_left(reach: Width, p: u64, q: u64) -> u64
-    ensures { λ r. ⌜ r ≡ shiftedLeft (bits reach) p q ⌝ }
-{
-    (p << distance(reach, q)) & reach.ones()
-}
+#[derive(Clone, Copy)]
+pub struct ShiftLeft(pub Width);
 
-pub fn shift_right(reach: Width, p: u64, q: u64) -> u64
-    ensures { λ r. ⌜ r ≡ shiftedRight (bits reach) p q ⌝ }
-{
-    p >> distance(reach, q)
-}
+pub impl FieldFunction for ShiftLeft as ShiftLeftFunction {
+    ghost meaning = { λ f. shiftedLeft (bits (f .0)) };
 
-pub fn shift_right_signed(reach: Width, p: u64, q: u64) -> u64
-    ensures { λ r. ⌜ r ≡ shiftedSigned (bits reach) p q ⌝ }
-{
-    let by = distance(reach, q);
-    let ones = reach.ones();
-    if (p >> (reach.bits() - 1)) % 2 == 1 {
-        p >> by | ones - (ones >> by)
-    } else {
-        p >> by
+    fn apply(&self, p: u64, q: u64) -> u64 {
+        (p << distance(self.0, q)) & self.0.ones()
     }
 }
 
-pub fn divide(p: u64, q: u64) -> u64
-    ensures { λ r. ⌜ r ≡ quotient p q ⌝ }
-{
-    if q == 0 { 0 } else { p / q }
+#[derive(Clone, Copy)]
+pub struct ShiftRight(pub Width);
+
+pub impl FieldFunction for ShiftRight as ShiftRightFunction {
+    ghost meaning = { λ f. shiftedRight (bits (f .0)) };
+
+    fn apply(&self, p: u64, q: u64) -> u64 {
+        p >> distance(self.0, q)
+    }
 }
 
-pub fn remainder(p: u64, q: u64) -> u64
-    ensures { λ r. ⌜ r ≡ remainder p q ⌝ }
-{
-    if q == 0 { 0 } else { p % q }
+// Copies of the top bit come in.
+#[derive(Clone, Copy)]
+pub struct ShiftRightSigned(pub Width);
+
+pub impl FieldFunction for ShiftRightSigned as ShiftRightSignedFunction {
+    ghost meaning = { λ f. shiftedSigned (bits (f .0)) };
+
+    fn apply(&self, p: u64, q: u64) -> u64 {
+        let by = distance(self.0, q);
+        let ones = self.0.ones();
+        if (p >> (self.0.bits() - 1)) % 2 == 1 {
+            p >> by | ones - (ones >> by)
+        } else {
+            p >> by
+        }
+    }
+}
+
+// Unsigned; a zero divisor gives 0.
+#[derive(Clone, Copy)]
+pub struct Divide;
+
+pub impl FieldFunction for Divide as DivideFunction {
+    ghost meaning = { λ _. quotient };
+
+    fn apply(&self, p: u64, q: u64) -> u64 {
+        if q == 0 { 0 } else { p / q }
+    }
+}
+
+#[derive(Clone, Copy)]
+pub struct Remainder;
+
+pub impl FieldFunction for Remainder as RemainderFunction {
+    ghost meaning = { λ _. remainder };
+
+    fn apply(&self, p: u64, q: u64) -> u64 {
+        if q == 0 { 0 } else { p % q }
+    }
+}
+
+#[derive(Clone, Copy)]
+pub struct SquareRoot;
+
+pub impl FieldFunction for SquareRoot as SquareRootFunction {
+    ghost meaning = { λ _ p q. rootOf p };
+
+    fn apply(&self, p: u64, _q: u64) -> u64 {
+        root(p)
+    }
+}
+
+// A function with its second operand fixed.
+#[derive(Clone, Copy)]
+pub struct Fixed<F> {
+    pub function: F,
+    pub second: u64,
+}
+
+pub impl<F: FieldFunction> FieldFunction for Fixed<F> as FixedFunction {
+    ghost meaning = { λ f p q. F·FieldFunction .meaning (f .function) p (f .second) };
+
+    fn apply(&self, p: u64, _q: u64) -> u64 {
+        self.function.apply(p, self.second)
+    }
 }

@@ -1,6 +1,6 @@
 use borrow.Author.Needs.{needs}
 use Rattle.alu.proofs.Cuts.{low-bits}
-use Rattle.alu.proofs.block.add.Needs as need
+use Rattle.alu.proofs.block.AddFunction.apply.Needs as need
 
 pub returns : need.returns
 returns c = search (needs, low-bits)

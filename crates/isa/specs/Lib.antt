@@ -1,0 +1,6 @@
+pub mod Calculated
+pub mod Decoded
+pub mod Encoded
+pub mod Operations
+pub mod Sets
+pub mod Tables
