@@ -3,14 +3,15 @@ use mathlib.Core.Path.{_≡_, refl, sym, ap, ap₂, _∙_, subst}
 use mathlib.Core.Bool.{cond}
 use mathlib.Core.Logic.{inl}
 use Prim.Native.Nat.{ℕ, suc, _+_, _-_, _*_, _/_, _%_, _^_, _≤_, _<_}
-use native.Mathlib.Nat.{mod-mod, mod-lt, mod-eq-of-lt, div-add-mod'}
+use native.Mathlib.Nat.{mod-mod, mod-lt, mod-eq-of-lt, lt-of-le-of-lt, zero-div, zero-mod}
 use native.Mathlib.Omega.{arith}
-use lib.Arith.{digits-div}
-use lib.Bits.{bitAnd, bitOr, bitXor, and-shr, and-mod, or-shr, or-mod, xor-shr, xor-mod, xor-add-and, and-mask}
+use lib.Bits.{bitAnd, bitOr, bitXor, and-shr, and-mod, or-shr, or-mod, xor-shr, xor-mod, xor-add-and, and-mask, and-le-l, or-lt, xor-lt}
 use lib.Dec.{eqb}
-use lib.Pow.{pow-pos, shr-shr, ones-split, ones-lt, high, low}
+use lib.Pow.{pow-pos, ones-split, ones-lt, ones-sub-lt, high, low}
 use Rattle.std.proofs.shelf.Tests.{eq-eqb, ne-eqb}
-use Rattle.base.specs.Words.{IsWidth, field, word, put, named, masked}
+use Rattle.base.specs.declared.width.Width.{Width}
+use Rattle.base.specs.Words.{bits, IsWidth, field, word, put}
+use Rattle.base.proofs.Widths.{is-width}
 use Rattle.base.proofs.Digits.{digit, gathered-digit, gathered-lt, same-digits, cut, digit-shl, digit-shl-other}
 
 pub byte : IsWidth 8
@@ -104,3 +105,24 @@ module _ {w : ℕ} (W : IsWidth w) where
 
   pub put-other : (j k v x : ℕ) → k < 64 / w → (j ≡ k → ⊥) → field w k (put w j v x) ≡ field w k x
   put-other j k v x h ne = field-word (λ i. cond (eqb i j) v (field w i x)) k h ∙ simp (ne-eqb k j (λ e. ne (sym e)), mod-mod)
+
+-- what works bit by bit on a word works so on its fields
+module _ (w : Width) where
+  pub whole-and : (a b : ℕ) → a < 2 ^ 64 → b < 2 ^ 64 → bitAnd a b ≡ word (bits w) (λ i. bitAnd (field (bits w) i a) (field (bits w) i b))
+  whole-and a b ha hb = word-from-fields (is-width w) (λ i. bitAnd (field (bits w) i a) (field (bits w) i b)) (bitAnd a b) (lt-of-le-of-lt (and-le-l a b) ha) (λ i l. simp (and-shr, and-mod, mod-mod))
+
+  pub whole-or : (a b : ℕ) → a < 2 ^ 64 → b < 2 ^ 64 → bitOr a b ≡ word (bits w) (λ i. bitOr (field (bits w) i a) (field (bits w) i b))
+  whole-or a b ha hb = word-from-fields (is-width w) (λ i. bitOr (field (bits w) i a) (field (bits w) i b)) (bitOr a b) (or-lt 64 a b ha hb) (λ i l. simp (or-shr, or-mod, mod-mod))
+
+  pub whole-xor : (a b : ℕ) → a < 2 ^ 64 → b < 2 ^ 64 → bitXor a b ≡ word (bits w) (λ i. bitXor (field (bits w) i a) (field (bits w) i b))
+  whole-xor a b ha hb = word-from-fields (is-width w) (λ i. bitXor (field (bits w) i a) (field (bits w) i b)) (bitXor a b) (xor-lt 64 a b ha hb) (λ i l. simp (xor-shr, xor-mod, mod-mod))
+
+  pub whole-not : (a : ℕ) → a < 2 ^ 64 → 2 ^ 64 - 1 - a ≡ word (bits w) (λ i. 2 ^ bits w - 1 - field (bits w) i a)
+  whole-not a h = word-from-fields (is-width w) (λ i. 2 ^ bits w - 1 - field (bits w) i a) (2 ^ 64 - 1 - a) (ones-sub-lt 64 a)
+      (λ i l. field-not (is-width w) i a l h ∙ sym (mod-eq-of-lt (ones-sub-lt (bits w) (field (bits w) i a))))
+
+  pub whole-same : (a : ℕ) → a < 2 ^ 64 → a ≡ word (bits w) (λ i. field (bits w) i a)
+  whole-same a h = sym (word-fields (is-width w) a h)
+
+  pub whole-zero : 0 ≡ word (bits w) (λ i. 0)
+  whole-zero = word-from-fields (is-width w) (λ i. 0) 0 (pow-pos 64) (λ i l. simp (zero-div, zero-mod))

@@ -1,0 +1,6 @@
+use Rattle.isa.specs.declared.table.Table.the-variants.{Cardinal}
+use Rattle.isa.proofs.Laws.{lawful}
+use Rattle.isa.proofs.set.CardinalSet.the-impl.Needs as need
+
+pub lawful-law : need.lawful-law
+lawful-law s = lawful Cardinal
