@@ -1,8 +1,9 @@
 ghost use mathlib.Core.Path.{_≡_};
 ghost use Rattle.base.specs.Faults.{number};
+ghost use Rattle.std.specs.Orderings.{Decides};
 
 // Why a call was refused.
-#[derive(Clone, Copy, PartialEq, Eq, Debug)]
+#[derive(Clone, Copy, Eq, Debug)]
 pub enum Fault {
     // the lane width is not 8, 16, 32 or 64
     LaneWidth = 1,
@@ -37,5 +38,13 @@ impl Fault {
         ensures { λ r. ⌜ r ≡ number self ⌝ }
     {
         self as u8
+    }
+}
+
+pub impl PartialEq<Fault> for Fault as FaultPartialEq {
+    ghost equals = { λ x y r. Decides r (x ≡ y) };
+
+    fn eq(&self, other: &Fault) -> bool {
+        *self as u8 == *other as u8
     }
 }

@@ -15,7 +15,7 @@ use Rattle.isa.specs.declared.instruction.Mnemonic.the-variants.{Vld, Vsd, Vbe
 use Rattle.isa.specs.declared.table.Table.{Table}
 use Rattle.isa.specs.declared.table.Table.the-variants.{Gold, Cardinal}
 use Rattle.isa.specs.Decoded.{opcodeOf, raOf, functionOf, legal, read, calculation, moved, nop, decoded}
-use Rattle.isa.specs.Encoded.{fixed}
+use Rattle.isa.specs.Assembled.{fixed}
 use Rattle.isa.specs.Tables.{kindOf, rows}
 use Rattle.alu.proofs.Everywhere.{every, at}
 

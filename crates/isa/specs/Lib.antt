@@ -1,3 +1,4 @@
+pub mod Assembled
 pub mod Calculated
 pub mod Decoded
 pub mod Encoded

@@ -96,7 +96,7 @@ impl Instruction {
 }
 
 // An illegal word has no result.
-pub fn result_of(meant: Option<Instruction>, a: u64, b: u64) -> u64
+pub(crate) fn result_of(meant: Option<Instruction>, a: u64, b: u64) -> u64
     ensures { λ r. ⌜ r ≡ outcome meant a b ⌝ }
 {
     match meant {

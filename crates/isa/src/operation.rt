@@ -96,7 +96,7 @@ impl Span {
 }
 
 impl Instruction {
-    pub fn reach(&self) -> Width
+    pub(crate) fn reach(&self) -> Width
         ensures { λ r. ⌜ r ≡ described (now (self .entry)) .reach ⌝ }
     {
         self.mnemonic.kind().span.reach(self.ww)
@@ -125,7 +125,7 @@ impl Instruction {
 }
 
 // An illegal word asks for what VNOP asks for.
-pub fn operation_of(meant: Option<Instruction>) -> Operation
+pub(crate) fn operation_of(meant: Option<Instruction>) -> Operation
     ensures { λ r. ⌜ r ≡ asked meant ⌝ }
 {
     match meant {
