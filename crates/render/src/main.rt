@@ -1,0 +1,134 @@
+// Shades one row of pixels of eight makers with a Gold kernel, and prints each action.
+mod listing;
+mod tiles;
+
+use base::merge;
+use isa::Class;
+use isa::ClassPartialEq;
+use isa::Gold;
+use isa::GoldSet;
+use isa::InstructionSet;
+use isa::Table;
+use listing::Text;
+use listing::TextDisplay;
+use std::io;
+use tiles::PIXELS;
+use tiles::Strip;
+use tiles::StripDisplay;
+use tiles::heights_at;
+
+// Relief shading in eight lanes of a byte. r1 has the heights, r2 those of the next pixel to the east, r3 the light,
+// r9 the haze that the makers of the lower four lanes ordered. r8 takes the shaded pixels.
+const KERNEL: [u32; 10] = [
+    0xA881_0810,
+    0xA8A2_0810,
+    0xA8C4_2807,
+    0xA8C6_1806,
+    0xA8C6_0810,
+    0xA8E1_1010,
+    0xA906_3806,
+    0xA861_1546,
+    0xA908_4A02,
+    0xF000_0000,
+];
+
+const LIGHT: u64 = 0x8080_8080_8080_8080;
+
+const HAZE: u64 = 0x0F0F_0F0F_0F0F_0F0F;
+
+// Lists the kernel, and encodes each instruction back to its word.
+fn list(rt: &LibcRuntime) -> io::Result<()> {
+    println!(rt, "the kernel, {} words", KERNEL.len())?;
+    let mut same = 0u32;
+    let mut legal = 0u32;
+    for (address, word) in KERNEL.iter().enumerate() {
+        let Some(instruction) = Table::Gold.decode(*word) else {
+            println!(rt, "  {address}  {word:08x}  illegal, does nothing")?;
+            continue;
+        };
+        let text = Text(instruction);
+        println!(rt, "  {address}  {word:08x}  {text}")?;
+        legal = legal.wrapping_add(1);
+        if let Ok(back) = Table::Gold.encode(&instruction) {
+            if back == *word {
+                same = same.wrapping_add(1);
+            }
+        }
+    }
+    println!(
+        rt,
+        "{same} of {legal} legal words come back from their instructions"
+    )
+}
+
+// The registers as the kernel finds them at a pixel.
+fn registers_at(pixel: usize) -> [u64; 32] {
+    let mut registers = [0; 32];
+    registers[1] = heights_at(pixel);
+    registers[2] = heights_at(pixel.wrapping_add(1));
+    registers[3] = LIGHT;
+    registers[9] = HAZE;
+    registers
+}
+
+fn read(registers: &[u64; 32], register: u8) -> u64 {
+    registers[register as usize % 32]
+}
+
+// Works the calculation that a word asks for; none where it asks for something else.
+fn calculate(registers: &mut [u64; 32], word: u32) -> Option<u64> {
+    let asked = Gold.operation(word);
+    if asked.class != Class::Calculate {
+        return None;
+    }
+    let a = read(registers, asked.ra);
+    let b = read(registers, asked.rb);
+    let result = Gold.result(word, a, b);
+    let value = merge(asked.mask, result, read(registers, asked.rd));
+    registers[asked.rd as usize % 32] = value;
+    Some(value)
+}
+
+// Works the kernel at one pixel of all makers, and answers their shaded pixels.
+fn shade(rt: &LibcRuntime, pixel: usize, aloud: bool) -> io::Result<u64> {
+    let mut registers = registers_at(pixel);
+    for (address, word) in KERNEL.iter().enumerate() {
+        let done = calculate(&mut registers, *word);
+        if aloud {
+            match done {
+                Some(value) => println!(rt, "  {address}  {value:016x}")?,
+                None => println!(rt, "  {address}  no calculation")?,
+            }
+        }
+    }
+    Ok(registers[8])
+}
+
+fn show(rt: &LibcRuntime, words: &[u64; PIXELS]) -> io::Result<()> {
+    for maker in 0..8 {
+        let strip = Strip { maker, words };
+        println!(rt, "  maker {maker} {strip}")?;
+    }
+    Ok(())
+}
+
+fn main(rt: LibcRuntime) -> io::Result<()> {
+    println!(
+        rt,
+        "Gold shades a row of {PIXELS} pixels of eight makers, a byte of each in every word"
+    )?;
+    list(&rt)?;
+    let mut before = [0; PIXELS];
+    let mut after = [0; PIXELS];
+    for pixel in 0..PIXELS {
+        before[pixel] = heights_at(pixel);
+        if pixel == 0 {
+            println!(rt, "the contents of rD after each calculation at pixel 0")?;
+        }
+        after[pixel] = shade(&rt, pixel, pixel == 0)?;
+    }
+    println!(rt, "heights before")?;
+    show(&rt, &before)?;
+    println!(rt, "pixels after")?;
+    show(&rt, &after)
+}
