@@ -1,4 +1,4 @@
-// Each function on one block of the two contents. A struct's width is the block's.
+//! Each function on one block of the two contents. A struct's width is the block's.
 ghost use mathlib.Core.Path.{_≡_};
 ghost use Prim.Native.Nat.{_+_, _-_, _*_, _/_, _%_, _^_, _<_};
 ghost use Rattle.alu.specs.Blocks.{sum, difference, even, odd, swapped, distance, shiftedLeft, shiftedRight, shiftedSigned, quotient, remainder};
@@ -8,7 +8,7 @@ use crate::roots::root;
 use base::FieldFunction;
 use base::Width;
 
-// The sum, its carry dropped.
+/// The sum, its carry dropped.
 #[derive(Clone, Copy)]
 pub struct Add(pub Width);
 
@@ -31,7 +31,7 @@ pub impl FieldFunction for Subtract as SubtractFunction {
     }
 }
 
-// The even subfield of a pair.
+/// The even subfield of a pair.
 fn upper(reach: Width, p: u64) -> u64
     ensures value { λ r. ⌜ r ≡ even (bits reach) p ⌝ }
     ensures below { λ r. ⌜ r < 2 ^ 32 ⌝ }
@@ -40,7 +40,7 @@ fn upper(reach: Width, p: u64) -> u64
     (p >> half) & (reach.ones() >> half)
 }
 
-// The odd subfield of a pair.
+/// The odd subfield of a pair.
 fn lower(reach: Width, p: u64) -> u64
     ensures value { λ r. ⌜ r ≡ odd (bits reach) p ⌝ }
     ensures below { λ r. ⌜ r < 2 ^ 32 ⌝ }
@@ -48,7 +48,7 @@ fn lower(reach: Width, p: u64) -> u64
     p & (reach.ones() >> (reach.bits() / 2))
 }
 
-// The product of the even subfields of the pair that the block is.
+/// The product of the even subfields of the pair that the block is.
 #[derive(Clone, Copy)]
 pub struct MultiplyEven(pub Width);
 
@@ -60,7 +60,7 @@ pub impl FieldFunction for MultiplyEven as MultiplyEvenFunction {
     }
 }
 
-// The product of the odd subfields.
+/// The product of the odd subfields.
 #[derive(Clone, Copy)]
 pub struct MultiplyOdd(pub Width);
 
@@ -83,7 +83,7 @@ pub impl FieldFunction for SwapHalves as SwapHalvesFunction {
     }
 }
 
-// How far a shift by q goes.
+/// How far a shift by q goes.
 fn distance(reach: Width, q: u64) -> u64
     ensures value { λ r. ⌜ r ≡ distance (bits reach) q ⌝ }
     ensures below { λ r. ⌜ r < bits reach ⌝ }
@@ -113,7 +113,7 @@ pub impl FieldFunction for ShiftRight as ShiftRightFunction {
     }
 }
 
-// Copies of the top bit come in.
+/// Copies of the top bit come in.
 #[derive(Clone, Copy)]
 pub struct ShiftRightSigned(pub Width);
 
@@ -131,7 +131,7 @@ pub impl FieldFunction for ShiftRightSigned as ShiftRightSignedFunction {
     }
 }
 
-// Unsigned; a zero divisor gives 0.
+/// Unsigned; a zero divisor gives 0.
 #[derive(Clone, Copy)]
 pub struct Divide;
 
@@ -165,7 +165,7 @@ pub impl FieldFunction for SquareRoot as SquareRootFunction {
     }
 }
 
-// A function with its second operand fixed.
+/// A function with its second operand fixed.
 #[derive(Clone, Copy)]
 pub struct Fixed<F> {
     pub function: F,

@@ -1,4 +1,4 @@
-// What the functions of both instruction sets make of one block of their contents.
+//! What the functions of both instruction sets make of one block of their contents.
 mod block;
 mod roots;
 

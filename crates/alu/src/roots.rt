@@ -1,4 +1,4 @@
-// Whole square roots.
+//! Whole square roots.
 ghost use mathlib.Core.Path.{_≡_};
 ghost use Rattle.alu.specs.Roots.{Root, rootOf};
 
@@ -261,7 +261,7 @@ const ROOTS: [u8; 256] = [
     15,
 ];
 
-// The root of a byte.
+/// The root of a byte.
 fn root8(x: u8) -> u8
     ensures rule { λ r. ⌜ Root x r ⌝ }
     ensures value { λ r. ⌜ r ≡ rootOf x ⌝ }
@@ -269,7 +269,7 @@ fn root8(x: u8) -> u8
     ROOTS[x as usize]
 }
 
-// By bisection: low² ≤ x < high².
+/// By bisection: low² ≤ x < high².
 fn root64(x: u64) -> u64
     ensures rule { λ r. ⌜ Root x r ⌝ }
     ensures value { λ r. ⌜ r ≡ rootOf x ⌝ }
@@ -287,7 +287,7 @@ fn root64(x: u64) -> u64
     low
 }
 
-// The largest number whose square is at most x.
+/// The largest number whose square is at most x.
 pub fn root(x: u64) -> u64
     ensures rule { λ r. ⌜ Root x r ⌝ }
     ensures value { λ r. ⌜ r ≡ rootOf x ⌝ }

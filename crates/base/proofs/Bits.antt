@@ -12,7 +12,9 @@ use lib.Pow.{pow-pos, pow-mono, pow-add, ones-lt}
 use Rattle.std.proofs.shelf.Bits.{shl-whole, shl-below}
 use Rattle.std.proofs.shelf.Tests.{cases-eq}
 use Rattle.std.proofs.shelf.Ways.{decides-below-and, decides-eqb}
-use Rattle.base.specs.Words.{IsWidth, field, gathered, word, put, named, masked}
+use Rattle.base.specs.declared.width.Width.{Width}
+use Rattle.base.specs.Words.{bits, Replaced, IsWidth, field, gathered, word, put, named, masked}
+use Rattle.base.proofs.Widths.{is-width}
 use Rattle.base.proofs.Digits.{gathered-lt}
 use Rattle.base.proofs.Fields.{byte, field-and, field-or, field-not, field-low64, field-shl, field-shl-other, field-word, same-fields, word-from-fields, word-lt, put-same, put-other}
 
@@ -103,3 +105,23 @@ merge-bits m x old b hx ho hb e =
     (λ i h.
     let at : field 8 i b ≡ cond (named m i) 255 0 % 256 = ap (field 8 i) e ∙ field-word byte (λ k. cond (named m k) 255 0) i h in
     simp (field-or, field-and, field-not byte, at, choose))
+
+cut-cond : (b : Bool) (p q : ℕ) → cond b (p % 256) (q % 256) % 256 ≡ cond b (p % 256) (q % 256)
+cut-cond true p q = mod-mod p 256
+cut-cond false p q = mod-mod q 256
+
+-- the bytes of a merge
+pub masked-byte : {r : ℕ} (m x old : ℕ) → r ≡ masked m x old → (i : ℕ) → i < 8 → field 8 i r ≡ cond (named m i) (field 8 i x) (field 8 i old)
+masked-byte m x old is i h =
+    ap (field 8 i) is ∙ field-word byte (λ k. cond (named m k) (field 8 k x) (field 8 k old)) i h
+    ∙ cut-cond (named m i) (x / 2 ^ (64 - 8 * suc i)) (old / 2 ^ (64 - 8 * suc i))
+
+-- the fields of a word with one replaced
+pub put-replaces : (w : Width) (i v x y : ℕ) → i < 64 / bits w → v < 2 ^ bits w → y ≡ put (bits w) i v x → Replaced (bits w) i v x y
+put-replaces w i v x y h lt is = record {
+  here = ap (field (bits w) i) is ∙ put-same (is-width w) i v x h lt;
+  elsewhere = λ j g ne. ap (field (bits w) j) is ∙ put-other (is-width w) i j v x g (λ e. ne (sym e));
+}
+
+pub zip-fields : (w : Width) (f : ℕ → ℕ) {r : ℕ} → r ≡ word (bits w) f → (i : ℕ) → i < 64 / bits w → field (bits w) i r ≡ f i % 2 ^ bits w
+zip-fields w f is i h = ap (field (bits w) i) is ∙ field-word (is-width w) f i h

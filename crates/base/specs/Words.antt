@@ -2,7 +2,7 @@
 use mathlib.Core.Bool.{Bool, cond}
 use mathlib.Core.Path.{_≡_}
 use mathlib.Core.Logic.{_⊎_}
-use Prim.Native.Nat.{ℕ, zero, suc, _+_, _-_, _*_, _/_, _%_, _^_}
+use Prim.Native.Nat.{ℕ, zero, suc, _+_, _-_, _*_, _/_, _%_, _^_, _<_}
 use lib.Dec.{eqb}
 use Rattle.base.specs.declared.width.Width.{Width}
 use Rattle.base.specs.declared.width.Width.the-variants.{Byte, Half, Word, Double}
@@ -33,6 +33,11 @@ word w f = gathered w (64 / w) f
 -- x with v in its field i
 abbrev pub put : ℕ → ℕ → ℕ → ℕ → ℕ
 put w i v x = word w (λ j. cond (eqb j i) v (field w j x))
+
+-- y is x with v in its field i, and nothing else changed
+pub record Replaced (w i v x y : ℕ) : Type 0 where
+  pub here : field w i y ≡ v
+  pub elsewhere : (j : ℕ) → j < 64 / w → (j ≡ i → ⊥) → field w j y ≡ field w j x
 
 -- the mask names byte i, byte 0 by its most significant bit
 abbrev pub named : ℕ → ℕ → Bool

@@ -1,4 +1,4 @@
-// A 64-bit word cut into fields of one width, and the faults of every call.
+//! A 64-bit word cut into fields of one width, and the faults of every call.
 mod fault;
 mod width;
 mod word;

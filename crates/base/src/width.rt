@@ -2,7 +2,7 @@ ghost use mathlib.Core.Path.{_≡_};
 ghost use Prim.Native.Nat.{_/_};
 ghost use Rattle.base.specs.Words.{bits, IsWidth};
 
-// The widths that a word is cut by.
+/// The widths that a word is cut by.
 #[derive(Clone, Copy, PartialEq, Eq, Debug)]
 pub enum Width {
     Byte,
@@ -24,7 +24,7 @@ impl Width {
         }
     }
 
-    // How many fields of this width a word has.
+    /// How many fields of this width a word has.
     pub fn fields(self) -> u32
         ensures { λ r. ⌜ r ≡ 64 / bits self ⌝ }
     {

@@ -1,13 +1,14 @@
-// The fields of a word. Field 0 is the most significant.
+//! The fields of a word. Field 0 is the most significant.
 ghost use mathlib.Core.Path.{_≡_};
 ghost use mathlib.Core.Bool.{cond, _&&_};
 ghost use Prim.Native.Nat.{ℕ, suc, _+_, _-_, _*_, _/_, _%_, _^_, _<_, _≤_};
 ghost use lib.Dec.{ltb};
-ghost use Rattle.base.specs.Words.{bits, IsWidth, field, word, put, named, masked};
+ghost use Rattle.base.specs.Words.{bits, IsWidth, field, word, put, Replaced, named, masked};
+ghost use Rattle.std.specs.Slices.{found};
 ghost use Rattle.std.specs.declared.option.Option.the-variants.{Some, None};
 use crate::width::Width;
 
-// What is worked out of the fields that stand at one place of two words.
+/// What is worked out of the fields that stand at one place of two words.
 pub trait FieldFunction {
     ghost meaning: { Self → ℕ → ℕ → ℕ };
 
@@ -15,7 +16,7 @@ pub trait FieldFunction {
         ensures { λ r. ⌜ r ≡ meaning (now (self .entry)) p q ⌝ };
 }
 
-// The place of a field's lowest bit.
+/// The place of a field's lowest bit.
 fn place(width: u32, index: u32) -> u32
     requires a_width { ⌜ IsWidth width ⌝ }
     requires inside { ⌜ index < 64 / width ⌝ }
@@ -50,7 +51,7 @@ fn put_at(width: u32, index: u32, value: u64, x: u64) -> u64
     x & !(ones(width) << place) | value << place
 }
 
-// The bytes that a mask names, all ones.
+/// The bytes that a mask names, all ones.
 fn byte_mask(mask: u8) -> u64
     ensures { λ r. ⌜ r ≡ word 8 (λ i. cond (named mask i) 255 0) ⌝ }
 {
@@ -59,17 +60,19 @@ fn byte_mask(mask: u8) -> u64
     (tops >> 7) * 0xff
 }
 
-// The new word in the bytes that the mask names, the old one in the others.
+/// The new word in the bytes that the mask names, the old one in the others.
 pub fn merge(mask: u8, new: u64, old: u64) -> u64
-    ensures { λ r. ⌜ r ≡ masked mask new old ⌝ }
+    ensures value { λ r. ⌜ r ≡ masked mask new old ⌝ }
+    ensures bytes { λ r. ⌜ ((i : ℕ) → i < 8 → field 8 i r ≡ cond (named mask i) (field 8 i new) (field 8 i old)) ⌝ }
 {
     let bytes = byte_mask(mask);
     new & bytes | old & !bytes
 }
 
-// The word whose fields are the function of the two words' fields, each cut to its width.
+/// The word whose fields are the function of the two words' fields, each cut to its width.
 pub fn zip_fields<F: FieldFunction>(width: Width, f: &F, a: u64, b: u64) -> u64
-    ensures { λ r. ⌜ r ≡ word (bits width) (λ i. meaning (now (f .entry)) (field (bits width) i a) (field (bits width) i b)) ⌝ }
+    ensures value { λ r. ⌜ r ≡ word (bits width) (λ i. meaning (now (f .entry)) (field (bits width) i a) (field (bits width) i b)) ⌝ }
+    ensures fields { λ r. ⌜ ((i : ℕ) → i < 64 / bits width → field (bits width) i r ≡ meaning (now (f .entry)) (field (bits width) i a) (field (bits width) i b) % 2 ^ bits width) ⌝ }
 {
     let size = width.bits();
     let ones = width.ones();
@@ -82,14 +85,14 @@ pub fn zip_fields<F: FieldFunction>(width: Width, f: &F, a: u64, b: u64) -> u64
 }
 
 impl Width {
-    // The largest value of a field.
+    /// The largest value of a field.
     pub fn ones(self) -> u64
         ensures { λ r. ⌜ r ≡ 2 ^ bits self - 1 ⌝ }
     {
         ones(self.bits())
     }
 
-    // The field at an index; none where a word has no such field.
+    /// The field at an index; none where a word has no such field.
     pub fn get(self, index: u32, x: u64) -> Option<u64>
         ensures { λ r. ⌜ r ≡ cond (ltb index (64 / bits self)) (Some (field (bits self) index x)) None ⌝ }
     {
@@ -100,9 +103,10 @@ impl Width {
         }
     }
 
-    // The word with a value in the field at an index; none where there is no such field, or the value does not fit it.
+    /// The word with a value in the field at an index; none where there is no such field, or the value does not fit it.
     pub fn put(self, index: u32, value: u64, x: u64) -> Option<u64>
-        ensures { λ r. ⌜ r ≡ cond (ltb index (64 / bits self) && ltb value (2 ^ bits self)) (Some (put (bits self) index value x)) None ⌝ }
+        ensures replaced { λ r. ⌜ found r (λ y. Replaced (bits self) index value x y) ⌝ }
+        ensures value { λ r. ⌜ r ≡ cond (ltb index (64 / bits self) && ltb value (2 ^ bits self)) (Some (put (bits self) index value x)) None ⌝ }
     {
         let size = self.bits();
         if index < self.fields() && value <= self.ones() {

@@ -1,4 +1,4 @@
-// What a calculation makes of the contents of two registers.
+//! What a calculation makes of the contents of two registers.
 ghost use mathlib.Core.Path.{_≡_};
 ghost use Prim.Native.Nat.{_%_, min};
 ghost use Rattle.base.specs.Words.{bits};
@@ -32,14 +32,14 @@ use alu::SwapHalvesFunction;
 use base::Width;
 use base::zip_fields;
 
-// The part of a shift amount that counts: at most five bits.
+/// The part of a shift amount that counts: at most five bits.
 fn immediate(reach: Width, amount: u8) -> u64
     ensures { λ r. ⌜ r ≡ immediate (bits reach) amount ⌝ }
 {
     amount as u64 % reach.bits().min(32) as u64
 }
 
-// Bitwise functions work on the whole word, the others block by block.
+/// Bitwise functions work on the whole word, the others block by block.
 fn blockwise(mnemonic: Mnemonic, amount: u8, reach: Width, a: u64, b: u64) -> u64
     ensures { λ r. ⌜ r ≡ blockwise mnemonic amount (bits reach) a b ⌝ }
 {
@@ -95,7 +95,7 @@ impl Instruction {
     }
 }
 
-// An illegal word has no result.
+/// An illegal word has no result.
 pub(crate) fn result_of(meant: Option<Instruction>, a: u64, b: u64) -> u64
     ensures { λ r. ⌜ r ≡ outcome meant a b ⌝ }
 {

@@ -1,4 +1,4 @@
-// From an instruction to its word.
+//! From an instruction to its word.
 ghost use mathlib.Core.Path.{_≡_};
 ghost use Rattle.isa.specs.Assembled.{by, fixed, assembled};
 ghost use Rattle.isa.specs.Encoded.{Encoded};
@@ -20,7 +20,7 @@ impl Table {
         }
     }
 
-    // The opcode and the function of a mnemonic, in their places.
+    /// The opcode and the function of a mnemonic, in their places.
     fn fixed(self, mnemonic: Mnemonic) -> u32
         ensures { λ r. ⌜ r ≡ fixed self mnemonic ⌝ }
     {
@@ -54,7 +54,7 @@ impl Table {
         }
     }
 
-    // The only word that can decode to the instruction.
+    /// The only word that can decode to the instruction.
     fn assemble(self, i: &Instruction) -> u32
         ensures { λ r. ⌜ r ≡ assembled self (now (i .entry)) ⌝ }
     {

@@ -1,4 +1,4 @@
-// The words of two instruction sets, Gold and Cardinal: what each word means, and the one word that means it.
+//! The words of two instruction sets, Gold and Cardinal: what each word means, and the one word that means it.
 mod calculation;
 mod decode;
 mod encode;

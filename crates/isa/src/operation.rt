@@ -1,4 +1,4 @@
-// What a word asks for, in the terms that every instruction set shares.
+//! What a word asks for, in the terms that every instruction set shares.
 ghost use mathlib.Core.Path.{_≡_};
 ghost use Rattle.isa.specs.Operations.{maskOf, widthOf, doubled, reachOf, calculates, readsSecond, described, asked};
 use crate::decode::NOP;
@@ -12,7 +12,7 @@ use base::Width;
 use base::WidthDebug;
 use base::WidthPartialEq;
 
-// What a word lacks is 0 or no. Loads, stores and branches use rD.
+/// What a word lacks is 0 or no. Loads, stores and branches use rD.
 #[derive(Clone, Copy, PartialEq, Eq, Debug)]
 pub struct Operation {
     pub class: Class,
@@ -22,9 +22,9 @@ pub struct Operation {
     pub reads_a: bool,
     pub reads_b: bool,
     pub address: u16,
-    // the bytes that a calculation writes: the most significant bit stands for byte 0
+    /// the bytes that a calculation writes: the most significant bit stands for byte 0
     pub mask: u8,
-    // a block of the result, cut by this width, depends only on the same block of the contents
+    /// a block of the result, cut by this width, depends only on the same block of the contents
     pub reach: Width,
 }
 
@@ -124,7 +124,7 @@ impl Instruction {
     }
 }
 
-// An illegal word asks for what VNOP asks for.
+/// An illegal word asks for what VNOP asks for.
 pub(crate) fn operation_of(meant: Option<Instruction>) -> Operation
     ensures { λ r. ⌜ r ≡ asked meant ⌝ }
 {

@@ -1,4 +1,4 @@
-// Instruction sets by their meaning, and the two that there are.
+//! Instruction sets by their meaning, and the two that there are.
 ghost use mathlib.Core.Path.{_≡_};
 ghost use Rattle.isa.specs.declared.table.Table.the-variants.{Gold as GoldTable, Cardinal as CardinalTable};
 ghost use Rattle.isa.specs.Sets.{Set, Lawful, setOf};
@@ -7,7 +7,7 @@ use crate::operation::Operation;
 use crate::operation::operation_of;
 use crate::table::Table;
 
-// What every word asks for and makes of two contents. No word and no contents are refused.
+/// What every word asks for and makes of two contents. No word and no contents are refused.
 pub trait InstructionSet {
     ghost meaning: { Self → Set };
 

@@ -1,11 +1,11 @@
-// Instructions as text, the way a kernel's author reads them.
+//! Instructions as text, the way a kernel's author reads them.
 use isa::Instruction;
 use isa::Mnemonic;
 use isa::Shape;
 use std::fmt;
 
-// An instruction to be printed, as 'vaddab r3, r1, r2': a calculation's name goes on with the bytes that it writes
-// (a all, u upper four, d lower four, e even, o odd) and with its width (b 8, h 16, w 32, d 64).
+/// An instruction to be printed, as 'vaddab r3, r1, r2': a calculation's name goes on with the bytes that it writes
+/// (a all, u upper four, d lower four, e even, o odd) and with its width (b 8, h 16, w 32, d 64).
 #[derive(Clone, Copy)]
 pub struct Text(pub Instruction);
 

@@ -1,4 +1,4 @@
-// Shades one row of pixels of eight makers with a Gold kernel, and prints each action.
+//! Shades one row of pixels of eight makers with a Gold kernel, and prints each action.
 mod listing;
 mod tiles;
 
@@ -17,8 +17,8 @@ use tiles::Strip;
 use tiles::StripDisplay;
 use tiles::heights_at;
 
-// Relief shading in eight lanes of a byte. r1 has the heights, r2 those of the next pixel to the east, r3 the light,
-// r9 the haze that the makers of the lower four lanes ordered. r8 takes the shaded pixels.
+/// Relief shading in eight lanes of a byte. r1 has the heights, r2 those of the next pixel to the east, r3 the light,
+/// r9 the haze that the makers of the lower four lanes ordered. r8 takes the shaded pixels.
 const KERNEL: [u32; 10] = [
     0xA881_0810,
     0xA8A2_0810,
@@ -36,7 +36,7 @@ const LIGHT: u64 = 0x8080_8080_8080_8080;
 
 const HAZE: u64 = 0x0F0F_0F0F_0F0F_0F0F;
 
-// Lists the kernel, and encodes each instruction back to its word.
+/// Lists the kernel, and encodes each instruction back to its word.
 fn list(rt: &LibcRuntime) -> io::Result<()> {
     println!(rt, "the kernel, {} words", KERNEL.len())?;
     let mut same = 0u32;
@@ -61,7 +61,7 @@ fn list(rt: &LibcRuntime) -> io::Result<()> {
     )
 }
 
-// The registers as the kernel finds them at a pixel.
+/// The registers as the kernel finds them at a pixel.
 fn registers_at(pixel: usize) -> [u64; 32] {
     let mut registers = [0; 32];
     registers[1] = heights_at(pixel);
@@ -75,7 +75,7 @@ fn read(registers: &[u64; 32], register: u8) -> u64 {
     registers[register as usize % 32]
 }
 
-// Works the calculation that a word asks for; none where it asks for something else.
+/// Works the calculation that a word asks for; none where it asks for something else.
 fn calculate(registers: &mut [u64; 32], word: u32) -> Option<u64> {
     let asked = Gold.operation(word);
     if asked.class != Class::Calculate {
@@ -89,7 +89,7 @@ fn calculate(registers: &mut [u64; 32], word: u32) -> Option<u64> {
     Some(value)
 }
 
-// Works the kernel at one pixel of all makers, and answers their shaded pixels.
+/// Works the kernel at one pixel of all makers, and answers their shaded pixels.
 fn shade(rt: &LibcRuntime, pixel: usize, aloud: bool) -> io::Result<u64> {
     let mut registers = registers_at(pixel);
     for (address, word) in KERNEL.iter().enumerate() {

@@ -1,10 +1,10 @@
-// One row of the tiles of eight makers, woven into words: pixel x of maker k is byte k of word x.
+//! One row of the tiles of eight makers, woven into words: pixel x of maker k is byte k of word x.
 use base::Width;
 use std::fmt;
 
 pub const PIXELS: usize = 8;
 
-// The heights of a row from west to east, a line for each maker, and one pixel more for the slope.
+/// The heights of a row from west to east, a line for each maker, and one pixel more for the slope.
 const HEIGHTS: [[u8; 9]; 8] = [
     [10, 20, 40, 80, 120, 140, 150, 150, 140],
     [200, 180, 160, 140, 120, 100, 80, 60, 40],
@@ -16,7 +16,7 @@ const HEIGHTS: [[u8; 9]; 8] = [
     [128, 64, 32, 16, 8, 4, 2, 1, 0],
 ];
 
-// The heights of all makers at one pixel.
+/// The heights of all makers at one pixel.
 pub fn heights_at(pixel: usize) -> u64 {
     let mut word = 0;
     for (maker, row) in HEIGHTS.iter().enumerate() {
@@ -28,14 +28,14 @@ pub fn heights_at(pixel: usize) -> u64 {
     word
 }
 
-// A maker's pixels in a row of words.
+/// A maker's pixels in a row of words.
 #[derive(Clone, Copy)]
 pub struct Strip<'a> {
     pub maker: u32,
     pub words: &'a [u64],
 }
 
-// From dark to bright.
+/// From dark to bright.
 const SHADES: [char; 8] = [' ', '.', ':', '-', '=', '+', '#', '@'];
 
 pub impl fmt::Display for Strip<'_> as StripDisplay {
