@@ -10,7 +10,7 @@ use lib.ListN.{length, getD}
 use Rattle.std.proofs.shelf.Bits.{mul-le}
 use Rattle.std.proofs.shelf.Tests.{leb-true, leb-false, cases-order, cond-both}
 use Rattle.alu.specs.Roots.{Root, rootOf}
-use Rattle.alu.proofs.Everywhere.{every, both, at}
+use Rattle.base.proofs.Everywhere.{every, both, at}
 
 abbrev pub right : ℕ → ℕ → Bool
 right x r = leb (r * r) x && ltb x (suc r * suc r)

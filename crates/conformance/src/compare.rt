@@ -7,16 +7,16 @@ use crate::manual::Set;
 use base::Fault;
 use base::FaultPartialEq;
 use base::merge;
+use codec::Class;
+use codec::ClassPartialEq;
+use codec::Instruction;
+use codec::Table;
 use isa::Cardinal;
 use isa::CardinalSet;
-use isa::Class;
-use isa::ClassPartialEq;
 use isa::Gold;
 use isa::GoldSet;
-use isa::Instruction;
 use isa::InstructionSet;
 use isa::Operation;
-use isa::Table;
 
 impl Set {
     fn table(self) -> Table {

@@ -1,8 +1,8 @@
 //! Test words and register contents from a fixed seed.
 ghost use Prim.Native.Nat.{_<_};
-use isa::Instruction;
-use isa::NOP;
-use isa::Table;
+use codec::Instruction;
+use codec::NOP;
+use codec::Table;
 
 /// A generator of pseudo random numbers (splitmix64): one seed always gives the same numbers.
 #[derive(Clone, Copy)]

@@ -8,18 +8,18 @@ use Rattle.std.specs.declared.option.Option.the-variants.{Some, None}
 use Rattle.base.proofs.Fields.{field-word}
 use Rattle.base.proofs.Widths.{is-width}
 use Rattle.base.specs.Words.{bits, field, word}
-use Rattle.isa.specs.declared.instruction.Instruction.{Instruction}
-use Rattle.isa.specs.declared.instruction.Mnemonic.{Mnemonic}
-use Rattle.isa.specs.declared.instruction.Shape.{Shape}
-use Rattle.isa.specs.declared.instruction.Shape.the-variants.{Two, One, Immediate, Address, Bare}
+use Rattle.codec.specs.declared.instruction.Instruction.{Instruction}
+use Rattle.codec.specs.declared.instruction.Mnemonic.{Mnemonic}
+use Rattle.codec.specs.declared.instruction.Shape.{Shape}
+use Rattle.codec.specs.declared.instruction.Shape.the-variants.{Two, One, Immediate, Address, Bare}
 use Rattle.isa.specs.declared.operation.Operation.{Operation}
-use Rattle.isa.specs.declared.table.Table.{Table}
+use Rattle.codec.specs.declared.table.Table.{Table}
 use Rattle.isa.specs.Calculated.{onBlock, reachesOf, outcome}
-use Rattle.isa.specs.Decoded.{rbOf, second, decoded}
+use Rattle.codec.specs.Decoded.{rbOf, second, decoded}
 use Rattle.isa.specs.Operations.{calculates, readsSecond, asked}
 use Rattle.isa.specs.Sets.{Lawful, setOf}
-use Rattle.isa.specs.Tables.{kindOf}
-use Rattle.isa.proofs.Origins.{decodes}
+use Rattle.codec.specs.Tables.{kindOf}
+use Rattle.codec.proofs.Origins.{decodes}
 
 -- over any reach, a block of a word that is made block by block depends only on the same block
 blocks : (o : Option Instruction) (a b c d k : ℕ) → k < 64 / bits (asked o .reach) → field (bits (asked o .reach)) k a ≡ field (bits (asked o .reach)) k c → field (bits (asked o .reach)) k b ≡ field (bits (asked o .reach)) k d

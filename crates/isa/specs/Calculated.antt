@@ -6,11 +6,11 @@ use Rattle.std.specs.declared.option.Option.the-variants.{Some, None}
 use Rattle.alu.specs.Blocks.{sum, difference, even, odd, swapped, shiftedLeft, shiftedRight, shiftedSigned, quotient, remainder}
 use Rattle.alu.specs.Roots.{rootOf}
 use Rattle.base.specs.Words.{bits, field, word}
-use Rattle.isa.specs.declared.instruction.Instruction.{Instruction}
-use Rattle.isa.specs.declared.instruction.Mnemonic.{Mnemonic}
-use Rattle.isa.specs.declared.instruction.Mnemonic.the-variants.{Vand, Vor, Vxor, Vnot, Vmov, Vadd, Vsub, Vmuleu, Vmulou, Vsqeu, Vsqou, Vrtth, Vsll, Vslli, Vsrl, Vsrli, Vsra, Vsrai, Vdiv, Vmod, Vsqrt, Vld, Vsd, Vbez, Vbnez, Vnop}
+use Rattle.codec.specs.declared.instruction.Instruction.{Instruction}
+use Rattle.codec.specs.declared.instruction.Mnemonic.{Mnemonic}
+use Rattle.codec.specs.declared.instruction.Mnemonic.the-variants.{Vand, Vor, Vxor, Vnot, Vmov, Vadd, Vsub, Vmuleu, Vmulou, Vsqeu, Vsqou, Vrtth, Vsll, Vslli, Vsrl, Vsrli, Vsra, Vsrai, Vdiv, Vmod, Vsqrt, Vld, Vsd, Vbez, Vbnez, Vnop}
 use Rattle.isa.specs.Operations.{reachOf}
-use Rattle.isa.specs.Tables.{kindOf}
+use Rattle.codec.specs.Tables.{kindOf}
 
 -- the low 3, 4, 5 or 5 bits of a shift amount
 abbrev pub immediate : ℕ → ℕ → ℕ

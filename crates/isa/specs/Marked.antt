@@ -5,12 +5,12 @@ use Prim.Native.Nat.{ℕ}
 use Rattle.std.specs.declared.option.Option.{Option}
 use Rattle.std.specs.declared.option.Option.the-variants.{Some, None}
 use Rattle.std.specs.shelf.Lists.{All}
-use Rattle.isa.specs.declared.instruction.Instruction.{Instruction}
-use Rattle.isa.specs.declared.instruction.Mnemonic.{Mnemonic}
-use Rattle.isa.specs.declared.instruction.Mnemonic.the-variants.{Vadd, Vmuleu, Vslli, Vsra, Vrtth, Vsll, Vdiv}
-use Rattle.isa.specs.declared.table.Table.{Table}
-use Rattle.isa.specs.declared.table.Table.the-variants.{Gold, Cardinal}
-use Rattle.isa.specs.Decoded.{decoded}
+use Rattle.codec.specs.declared.instruction.Instruction.{Instruction}
+use Rattle.codec.specs.declared.instruction.Mnemonic.{Mnemonic}
+use Rattle.codec.specs.declared.instruction.Mnemonic.the-variants.{Vadd, Vmuleu, Vslli, Vsra, Vrtth, Vsll, Vdiv}
+use Rattle.codec.specs.declared.table.Table.{Table}
+use Rattle.codec.specs.declared.table.Table.the-variants.{Gold, Cardinal}
+use Rattle.codec.specs.Decoded.{decoded}
 use Rattle.isa.specs.Sets.{setOf, written}
 
 -- a word, what it means, the contents of r1, r2 and r3 before it, and of r3 after it

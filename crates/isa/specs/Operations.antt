@@ -7,14 +7,14 @@ use Rattle.std.specs.declared.option.Option.{Option}
 use Rattle.std.specs.declared.option.Option.the-variants.{Some, None}
 use Rattle.base.specs.declared.width.Width.{Width}
 use Rattle.base.specs.declared.width.Width.the-variants.{Byte, Half, Word, Double}
-use Rattle.isa.specs.declared.instruction.Instruction.{Instruction}
-use Rattle.isa.specs.declared.instruction.Shape.{Shape}
-use Rattle.isa.specs.declared.instruction.Shape.the-variants.{Two, One, Immediate, Address, Bare}
-use Rattle.isa.specs.declared.instruction.Span.{Span}
-use Rattle.isa.specs.declared.instruction.Span.the-variants.{Bit, Subfield, Pair}
+use Rattle.codec.specs.declared.instruction.Instruction.{Instruction}
+use Rattle.codec.specs.declared.instruction.Shape.{Shape}
+use Rattle.codec.specs.declared.instruction.Shape.the-variants.{Two, One, Immediate, Address, Bare}
+use Rattle.codec.specs.declared.instruction.Span.{Span}
+use Rattle.codec.specs.declared.instruction.Span.the-variants.{Bit, Subfield, Pair}
 use Rattle.isa.specs.declared.operation.Operation.{Operation}
-use Rattle.isa.specs.Decoded.{nop}
-use Rattle.isa.specs.Tables.{kindOf}
+use Rattle.codec.specs.Decoded.{nop}
+use Rattle.codec.specs.Tables.{kindOf}
 
 -- the bytes that a PPP names: all, the upper and the lower four, the even and the odd
 abbrev pub maskOf : ℕ → ℕ

@@ -4,9 +4,9 @@ use mathlib.Core.Bool.{false}
 use Prim.Native.Nat.{ℕ, _/_, _^_, _<_}
 use Rattle.base.specs.Words.{bits, field, masked}
 use Rattle.isa.specs.declared.operation.Operation.{Operation}
-use Rattle.isa.specs.declared.table.Table.{Table}
+use Rattle.codec.specs.declared.table.Table.{Table}
 use Rattle.isa.specs.Calculated.{outcome}
-use Rattle.isa.specs.Decoded.{decoded}
+use Rattle.codec.specs.Decoded.{decoded}
 use Rattle.isa.specs.Operations.{asked}
 
 pub record Set : Type 0 where

@@ -3,8 +3,7 @@ ghost use mathlib.Core.Path.{_≡_};
 ghost use Prim.Native.Nat.{_%_, min};
 ghost use Rattle.base.specs.Words.{bits};
 ghost use Rattle.isa.specs.Calculated.{immediate, blockwise, calculated, outcome};
-use crate::instruction::Instruction;
-use crate::instruction::Mnemonic;
+use crate::operation::reach_of;
 use alu::Add;
 use alu::AddFunction;
 use alu::Divide;
@@ -31,6 +30,8 @@ use alu::SwapHalves;
 use alu::SwapHalvesFunction;
 use base::Width;
 use base::zip_fields;
+use codec::Instruction;
+use codec::Mnemonic;
 
 /// The part of a shift amount that counts: at most five bits.
 fn immediate(reach: Width, amount: u8) -> u64
@@ -87,20 +88,20 @@ fn blockwise(mnemonic: Mnemonic, amount: u8, reach: Width, a: u64, b: u64) -> u6
     }
 }
 
-impl Instruction {
-    pub fn result(&self, a: u64, b: u64) -> u64
-        ensures { λ r. ⌜ r ≡ calculated (now (self .entry)) a b ⌝ }
-    {
-        blockwise(self.mnemonic, self.amount, self.reach(), a, b)
-    }
+/// The result of an instruction.
+fn calculated(i: &Instruction, a: u64, b: u64) -> u64
+    ensures { λ r. ⌜ r ≡ calculated (now (i .entry)) a b ⌝ }
+{
+    let reach = reach_of(i.mnemonic.kind().span, i.ww);
+    blockwise(i.mnemonic, i.amount, reach, a, b)
 }
 
-/// An illegal word has no result.
+/// The result of a decoded word; an illegal one has none.
 pub(crate) fn result_of(meant: Option<Instruction>, a: u64, b: u64) -> u64
     ensures { λ r. ⌜ r ≡ outcome meant a b ⌝ }
 {
     match meant {
-        Some(i) => i.result(a, b),
+        Some(i) => calculated(&i, a, b),
         None => 0,
     }
 }

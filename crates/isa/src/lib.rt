@@ -1,26 +1,9 @@
-//! The words of two instruction sets, Gold and Cardinal: what each word means, and the one word that means it.
+//! Instruction sets by their meaning: what each word asks for, and what it makes of the contents of two registers.
 mod calculation;
-mod decode;
-mod encode;
-mod instruction;
 mod marked;
 mod operation;
 mod set;
-mod table;
 
-pub use decode::NOP;
-pub use instruction::Class;
-pub use instruction::ClassDebug;
-pub use instruction::ClassPartialEq;
-pub use instruction::Instruction;
-pub use instruction::InstructionDebug;
-pub use instruction::InstructionPartialEq;
-pub use instruction::Kind;
-pub use instruction::Mnemonic;
-pub use instruction::MnemonicDebug;
-pub use instruction::MnemonicPartialEq;
-pub use instruction::Shape;
-pub use instruction::Span;
 pub use marked::marked_cases;
 pub use operation::Operation;
 pub use operation::OperationDebug;
@@ -30,4 +13,3 @@ pub use set::CardinalSet;
 pub use set::Gold;
 pub use set::GoldSet;
 pub use set::InstructionSet;
-pub use table::Table;

@@ -1,16 +1,16 @@
 //! What a word asks for, in the terms that every instruction set shares.
 ghost use mathlib.Core.Path.{_≡_};
 ghost use Rattle.isa.specs.Operations.{maskOf, widthOf, doubled, reachOf, calculates, readsSecond, described, asked};
-use crate::decode::NOP;
-use crate::instruction::Class;
-use crate::instruction::ClassDebug;
-use crate::instruction::ClassPartialEq;
-use crate::instruction::Instruction;
-use crate::instruction::Shape;
-use crate::instruction::Span;
 use base::Width;
 use base::WidthDebug;
 use base::WidthPartialEq;
+use codec::Class;
+use codec::ClassDebug;
+use codec::ClassPartialEq;
+use codec::Instruction;
+use codec::NOP;
+use codec::Shape;
+use codec::Span;
 
 /// What a word lacks is 0 or no. Loads, stores and branches use rD.
 #[derive(Clone, Copy, PartialEq, Eq, Debug)]
@@ -63,73 +63,64 @@ fn doubled(width: Width) -> Width
     }
 }
 
-impl Shape {
-    fn calculates(self) -> bool
-        ensures { λ r. ⌜ r ≡ calculates self ⌝ }
-    {
-        match self {
-            Shape::Two | Shape::One | Shape::Immediate => true,
-            Shape::Address | Shape::Bare => false,
-        }
-    }
-
-    fn reads_second(self) -> bool
-        ensures { λ r. ⌜ r ≡ readsSecond self ⌝ }
-    {
-        match self {
-            Shape::Two => true,
-            _ => false,
-        }
+fn calculates(shape: Shape) -> bool
+    ensures { λ r. ⌜ r ≡ calculates shape ⌝ }
+{
+    match shape {
+        Shape::Two | Shape::One | Shape::Immediate => true,
+        Shape::Address | Shape::Bare => false,
     }
 }
 
-impl Span {
-    fn reach(self, ww: u8) -> Width
-        ensures { λ r. ⌜ r ≡ reachOf self ww ⌝ }
-    {
-        match self {
-            Span::Bit => Width::Byte,
-            Span::Subfield => width_of(ww),
-            Span::Pair => doubled(width_of(ww)),
-        }
+fn reads_second(shape: Shape) -> bool
+    ensures { λ r. ⌜ r ≡ readsSecond shape ⌝ }
+{
+    match shape {
+        Shape::Two => true,
+        _ => false,
     }
 }
 
-impl Instruction {
-    pub(crate) fn reach(&self) -> Width
-        ensures { λ r. ⌜ r ≡ described (now (self .entry)) .reach ⌝ }
-    {
-        self.mnemonic.kind().span.reach(self.ww)
+/// How far a block of the result looks.
+pub(crate) fn reach_of(span: Span, ww: u8) -> Width
+    ensures { λ r. ⌜ r ≡ reachOf span ww ⌝ }
+{
+    match span {
+        Span::Bit => Width::Byte,
+        Span::Subfield => width_of(ww),
+        Span::Pair => doubled(width_of(ww)),
     }
+}
 
-    pub fn operation(&self) -> Operation
-        ensures { λ r. ⌜ r ≡ described (now (self .entry)) ⌝ }
+impl Operation {
+    pub fn of(i: &Instruction) -> Operation
+        ensures { λ r. ⌜ r ≡ described (now (i .entry)) ⌝ }
     {
-        let kind = self.mnemonic.kind();
+        let kind = i.mnemonic.kind();
         Operation {
             class: kind.class,
-            rd: self.rd,
-            ra: self.ra,
-            rb: self.rb,
-            reads_a: kind.shape.calculates(),
-            reads_b: kind.shape.reads_second(),
-            address: self.address,
-            mask: if kind.shape.calculates() {
-                mask_of(self.ppp)
+            rd: i.rd,
+            ra: i.ra,
+            rb: i.rb,
+            reads_a: calculates(kind.shape),
+            reads_b: reads_second(kind.shape),
+            address: i.address,
+            mask: if calculates(kind.shape) {
+                mask_of(i.ppp)
             } else {
                 0
             },
-            reach: self.reach(),
+            reach: reach_of(kind.span, i.ww),
         }
     }
-}
 
-/// An illegal word asks for what VNOP asks for.
-pub(crate) fn operation_of(meant: Option<Instruction>) -> Operation
-    ensures { λ r. ⌜ r ≡ asked meant ⌝ }
-{
-    match meant {
-        Some(i) => i.operation(),
-        None => NOP.operation(),
+    /// What a decoded word asks for; an illegal one asks for what VNOP asks for.
+    pub(crate) fn asked(meant: Option<Instruction>) -> Operation
+        ensures { λ r. ⌜ r ≡ asked meant ⌝ }
+    {
+        match meant {
+            Some(i) => Operation::of(&i),
+            None => Operation::of(&NOP),
+        }
     }
 }

@@ -1,11 +1,10 @@
 //! Instruction sets by their meaning, and the two that there are.
 ghost use mathlib.Core.Path.{_≡_};
-ghost use Rattle.isa.specs.declared.table.Table.the-variants.{Gold as GoldTable, Cardinal as CardinalTable};
+ghost use Rattle.codec.specs.declared.table.Table.the-variants.{Gold as GoldTable, Cardinal as CardinalTable};
 ghost use Rattle.isa.specs.Sets.{Set, Lawful, setOf};
 use crate::calculation::result_of;
 use crate::operation::Operation;
-use crate::operation::operation_of;
-use crate::table::Table;
+use codec::Table;
 
 /// What every word asks for and makes of two contents. No word and no contents are refused.
 pub trait InstructionSet {
@@ -27,7 +26,7 @@ pub impl InstructionSet for Gold as GoldSet {
     ghost meaning = { λ _. setOf GoldTable };
 
     fn operation(&self, word: u32) -> Operation {
-        operation_of(Table::Gold.decode(word))
+        Operation::asked(Table::Gold.decode(word))
     }
 
     fn result(&self, word: u32, a: u64, b: u64) -> u64 {
@@ -42,7 +41,7 @@ pub impl InstructionSet for Cardinal as CardinalSet {
     ghost meaning = { λ _. setOf CardinalTable };
 
     fn operation(&self, word: u32) -> Operation {
-        operation_of(Table::Cardinal.decode(word))
+        Operation::asked(Table::Cardinal.decode(word))
     }
 
     fn result(&self, word: u32, a: u64, b: u64) -> u64 {

@@ -1,7 +1,7 @@
 //! Instructions as text, the way a kernel's author reads them.
-use isa::Instruction;
-use isa::Mnemonic;
-use isa::Shape;
+use codec::Instruction;
+use codec::Mnemonic;
+use codec::Shape;
 use std::fmt;
 
 /// An instruction to be printed, as 'vaddab r3, r1, r2': a calculation's name goes on with the bytes that it writes

@@ -3,12 +3,12 @@ mod listing;
 mod tiles;
 
 use base::merge;
-use isa::Class;
-use isa::ClassPartialEq;
+use codec::Class;
+use codec::ClassPartialEq;
+use codec::Table;
 use isa::Gold;
 use isa::GoldSet;
 use isa::InstructionSet;
-use isa::Table;
 use listing::Text;
 use listing::TextDisplay;
 use std::io;

@@ -1,4 +1,4 @@
-use Rattle.isa.specs.declared.table.Table.the-variants.{Cardinal}
+use Rattle.codec.specs.declared.table.Table.the-variants.{Cardinal}
 use Rattle.isa.proofs.Laws.{lawful}
 use Rattle.isa.proofs.set.CardinalSet.the-impl.Needs as need
 

@@ -1,4 +1,4 @@
-use Rattle.isa.specs.declared.table.Table.the-variants.{Gold}
+use Rattle.codec.specs.declared.table.Table.the-variants.{Gold}
 use Rattle.isa.proofs.Laws.{lawful}
 use Rattle.isa.proofs.set.GoldSet.the-impl.Needs as need
 

@@ -1,7 +1,7 @@
 //! From an instruction to its word.
 ghost use mathlib.Core.Path.{_≡_};
-ghost use Rattle.isa.specs.Assembled.{by, fixed, assembled};
-ghost use Rattle.isa.specs.Encoded.{Encoded};
+ghost use Rattle.codec.specs.Assembled.{by, fixed, assembled};
+ghost use Rattle.codec.specs.Encoded.{Encoded};
 use crate::instruction::Instruction;
 use crate::instruction::InstructionPartialEq;
 use crate::instruction::Mnemonic;

@@ -1,10 +1,10 @@
 -- The only word that could mean an instruction. What encoding answers rests on decoding alone; this serves its proof.
 use Prim.Native.Nat.{ℕ, _+_, _*_, _%_, _^_}
-use Rattle.isa.specs.declared.instruction.Instruction.{Instruction}
-use Rattle.isa.specs.declared.instruction.Mnemonic.{Mnemonic}
-use Rattle.isa.specs.declared.instruction.Mnemonic.the-variants.{Vand, Vor, Vxor, Vnot, Vmov, Vadd, Vsub, Vmuleu, Vmulou, Vsqeu, Vsqou, Vrtth, Vsll, Vslli, Vsrl, Vsrli, Vsra, Vsrai, Vdiv, Vmod, Vsqrt, Vld, Vsd, Vbez, Vbnez, Vnop}
-use Rattle.isa.specs.declared.table.Table.{Table}
-use Rattle.isa.specs.declared.table.Table.the-variants.{Gold, Cardinal}
+use Rattle.codec.specs.declared.instruction.Instruction.{Instruction}
+use Rattle.codec.specs.declared.instruction.Mnemonic.{Mnemonic}
+use Rattle.codec.specs.declared.instruction.Mnemonic.the-variants.{Vand, Vor, Vxor, Vnot, Vmov, Vadd, Vsub, Vmuleu, Vmulou, Vsqeu, Vsqou, Vrtth, Vsll, Vslli, Vsrl, Vsrli, Vsra, Vsrai, Vdiv, Vmod, Vsqrt, Vld, Vsd, Vbez, Vbnez, Vnop}
+use Rattle.codec.specs.declared.table.Table.{Table}
+use Rattle.codec.specs.declared.table.Table.the-variants.{Gold, Cardinal}
 
 abbrev pub by : Table → ℕ → ℕ → ℕ
 by Gold gold cardinal = gold

@@ -9,15 +9,15 @@ use Rattle.std.proofs.shelf.Lists.{getD-past}
 use Rattle.std.proofs.shelf.Tests.{eqb-true, cases-lt}
 use Rattle.std.specs.declared.option.Option.{Option}
 use Rattle.std.specs.declared.option.Option.the-variants.{Some, None}
-use Rattle.isa.specs.declared.instruction.Instruction.{Instruction}
-use Rattle.isa.specs.declared.instruction.Mnemonic.{Mnemonic}
-use Rattle.isa.specs.declared.instruction.Mnemonic.the-variants.{Vld, Vsd, Vbez, Vbnez}
-use Rattle.isa.specs.declared.table.Table.{Table}
-use Rattle.isa.specs.declared.table.Table.the-variants.{Gold, Cardinal}
-use Rattle.isa.specs.Decoded.{opcodeOf, raOf, functionOf, legal, read, calculation, moved, nop, decoded}
-use Rattle.isa.specs.Assembled.{fixed}
-use Rattle.isa.specs.Tables.{kindOf, rows}
-use Rattle.alu.proofs.Everywhere.{every, at}
+use Rattle.codec.specs.declared.instruction.Instruction.{Instruction}
+use Rattle.codec.specs.declared.instruction.Mnemonic.{Mnemonic}
+use Rattle.codec.specs.declared.instruction.Mnemonic.the-variants.{Vld, Vsd, Vbez, Vbnez}
+use Rattle.codec.specs.declared.table.Table.{Table}
+use Rattle.codec.specs.declared.table.Table.the-variants.{Gold, Cardinal}
+use Rattle.codec.specs.Decoded.{opcodeOf, raOf, functionOf, legal, read, calculation, moved, nop, decoded}
+use Rattle.codec.specs.Assembled.{fixed}
+use Rattle.codec.specs.Tables.{kindOf, rows}
+use Rattle.base.proofs.Everywhere.{every, at}
 
 -- the fixed bits of a mnemonic are the opcode and its place in the table
 right : Table → ℕ → Option Mnemonic → Bool

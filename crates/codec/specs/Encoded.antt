@@ -6,9 +6,9 @@ use Rattle.std.specs.declared.result.Result.{Result}
 use Rattle.std.specs.declared.result.Result.the-variants.{Ok, Err}
 use Rattle.base.specs.declared.fault.Fault.{Fault}
 use Rattle.base.specs.declared.fault.Fault.the-variants.{NoSuchInstruction}
-use Rattle.isa.specs.declared.instruction.Instruction.{Instruction}
-use Rattle.isa.specs.declared.table.Table.{Table}
-use Rattle.isa.specs.Decoded.{decoded}
+use Rattle.codec.specs.declared.instruction.Instruction.{Instruction}
+use Rattle.codec.specs.declared.table.Table.{Table}
+use Rattle.codec.specs.Decoded.{decoded}
 
 -- the word v means the instruction
 abbrev pub Means : Table → Instruction → ℕ → Type 0

@@ -1,0 +1,4 @@
+pub mod Assembled
+pub mod Decoded
+pub mod Encoded
+pub mod Tables
