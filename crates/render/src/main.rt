@@ -36,29 +36,36 @@ const LIGHT: u64 = 0x8080_8080_8080_8080;
 
 const HAZE: u64 = 0x0F0F_0F0F_0F0F_0F0F;
 
-/// Lists the kernel, and encodes each instruction back to its word.
+/// Lists the kernel: address, word, instruction, and the word that the instruction encodes to.
 fn list(rt: &LibcRuntime) -> io::Result<()> {
-    println!(rt, "the kernel, {} words", KERNEL.len())?;
-    let mut same = 0u32;
-    let mut legal = 0u32;
+    println!(
+        rt,
+        "the kernel, {} words; each instruction is encoded back",
+        KERNEL.len()
+    )?;
     for (address, word) in KERNEL.iter().enumerate() {
         let Some(instruction) = Table::Gold.decode(*word) else {
             println!(rt, "  {address}  {word:08x}  illegal, does nothing")?;
             continue;
         };
         let text = Text(instruction);
-        println!(rt, "  {address}  {word:08x}  {text}")?;
-        legal = legal.wrapping_add(1);
-        if let Ok(back) = Table::Gold.encode(&instruction) {
-            if back == *word {
-                same = same.wrapping_add(1);
-            }
+        match Table::Gold.encode(&instruction) {
+            Ok(back) if back == *word => println!(
+                rt,
+                "  {address}  {word:08x}  {text}  (encodes back)"
+            )?,
+            Ok(back) => println!(
+                rt,
+                "  {address}  {word:08x}  {text}  (ENCODES TO {back:08x})"
+            )?,
+            Err(fault) => println!(
+                rt,
+                "  {address}  {word:08x}  {text}  (REFUSED, {})",
+                fault.number()
+            )?,
         }
     }
-    println!(
-        rt,
-        "{same} of {legal} legal words come back from their instructions"
-    )
+    Ok(())
 }
 
 /// The registers as the kernel finds them at a pixel.
@@ -89,19 +96,25 @@ fn calculate(registers: &mut [u64; 32], word: u32) -> Option<u64> {
     Some(value)
 }
 
-/// Works the kernel at one pixel of all makers, and answers their shaded pixels.
-fn shade(rt: &LibcRuntime, pixel: usize, aloud: bool) -> io::Result<u64> {
+/// Works the kernel at one pixel of all makers, and answers their shaded pixels. At the first pixel it tells each step.
+fn shade(rt: &LibcRuntime, pixel: usize) -> io::Result<u64> {
     let mut registers = registers_at(pixel);
+    let heights = registers[1];
     for (address, word) in KERNEL.iter().enumerate() {
         let done = calculate(&mut registers, *word);
-        if aloud {
+        if pixel == 0 {
             match done {
-                Some(value) => println!(rt, "  {address}  {value:016x}")?,
-                None => println!(rt, "  {address}  no calculation")?,
+                Some(value) => println!(rt, "  {address}  {word:08x} leaves {value:016x}")?,
+                None => println!(rt, "  {address}  {word:08x} leaves all as it was")?,
             }
         }
     }
-    Ok(registers[8])
+    let shaded = registers[8];
+    println!(
+        rt,
+        "pixel {pixel}: heights {heights:016x}, shaded {shaded:016x}"
+    )?;
+    Ok(shaded)
 }
 
 fn show(rt: &LibcRuntime, words: &[u64; PIXELS]) -> io::Result<()> {
@@ -118,14 +131,12 @@ fn main(rt: LibcRuntime) -> io::Result<()> {
         "Gold shades a row of {PIXELS} pixels of eight makers, a byte of each in every word"
     )?;
     list(&rt)?;
+    println!(rt, "the calculations, each of them told at pixel 0")?;
     let mut before = [0; PIXELS];
     let mut after = [0; PIXELS];
     for pixel in 0..PIXELS {
         before[pixel] = heights_at(pixel);
-        if pixel == 0 {
-            println!(rt, "the contents of rD after each calculation at pixel 0")?;
-        }
-        after[pixel] = shade(&rt, pixel, pixel == 0)?;
+        after[pixel] = shade(&rt, pixel)?;
     }
     println!(rt, "heights before")?;
     show(&rt, &before)?;
