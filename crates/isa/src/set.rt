@@ -19,6 +19,7 @@ pub trait InstructionSet {
         ensures { λ r. ⌜ r ≡ meaning (now (self .entry)) .result word a b ⌝ };
 }
 
+/// Gold, with selective writing and shifts by an amount.
 #[derive(Clone, Copy)]
 pub struct Gold;
 
@@ -34,6 +35,7 @@ pub impl InstructionSet for Gold as GoldSet {
     }
 }
 
+/// Cardinal, with division and roots.
 #[derive(Clone, Copy)]
 pub struct Cardinal;
 
