@@ -7,7 +7,7 @@ use lib.Bits.{bitAnd, and-mask}
 use lib.Pow.{pow-pos, ones-split, ones-lt, high}
 use Rattle.base.proofs.Widths.{is-width}
 use Rattle.base.specs.declared.width.Width.{Width}
-use Rattle.base.specs.declared.width.Width.the-variants.{Byte, Half, Word, Double}
+use Rattle.base.specs.declared.width.Width.the-variants.{W8, W16, W32, W64}
 use Rattle.base.specs.Words.{bits, IsWidth}
 use Rattle.alu.specs.Blocks.{difference, even, odd, distance, tops}
 
@@ -26,31 +26,31 @@ pub low-difference : (w : Width) (p q m : ℕ) → q < 2 ^ 64 → m ≡ 2 ^ bits
 low-difference w p q m h is = low-bits w (p + (2 ^ 64 - q)) m is ∙ borrowed (is-width w) p q h
 
 half-ones : (w : Width) → (2 ^ bits w - 1) / 2 ^ (bits w / 2) ≡ 2 ^ (bits w / 2) - 1
-half-ones Byte = refl
-half-ones Half = refl
-half-ones Word = refl
-half-ones Double = refl
+half-ones W8 = refl
+half-ones W16 = refl
+half-ones W32 = refl
+half-ones W64 = refl
 
 pub lower-half : (w : Width) (p m n : ℕ) → m ≡ 2 ^ bits w - 1 → n ≡ bits w → bitAnd p (m / 2 ^ (n / 2)) ≡ odd (bits w) p
 lower-half w p m n is at = rw (is, at, half-ones w) (and-mask p (bits w / 2))
 
 pub half-below : (w : Width) (p : ℕ) → p % 2 ^ (bits w / 2) < 2 ^ 32
-half-below Byte p = omega arith
-half-below Half p = omega arith
-half-below Word p = omega arith
-half-below Double p = omega arith
+half-below W8 p = omega arith
+half-below W16 p = omega arith
+half-below W32 p = omega arith
+half-below W64 p = omega arith
 
 pub shift-distance : (w : Width) (q : ℕ) → bitAnd q (bits w - 1) ≡ distance (bits w) q
-shift-distance Byte q = and-mask q 3
-shift-distance Half q = and-mask q 4
-shift-distance Word q = and-mask q 5
-shift-distance Double q = and-mask q 6
+shift-distance W8 q = and-mask q 3
+shift-distance W16 q = and-mask q 4
+shift-distance W32 q = and-mask q 5
+shift-distance W64 q = and-mask q 6
 
 pub distance-below : (w : Width) (q : ℕ) → distance (bits w) q < bits w
-distance-below Byte q = omega arith
-distance-below Half q = omega arith
-distance-below Word q = omega arith
-distance-below Double q = omega arith
+distance-below W8 q = omega arith
+distance-below W16 q = omega arith
+distance-below W32 q = omega arith
+distance-below W64 q = omega arith
 
 -- the bits that all ones lose by a shift to the right
 pub lost : (r s : ℕ) → s ≤ r → (2 ^ r - 1) - (2 ^ r - 1) / 2 ^ s ≡ tops r s

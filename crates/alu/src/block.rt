@@ -20,6 +20,7 @@ pub impl FieldFunction for Add as AddFunction {
     }
 }
 
+/// The difference, its borrow dropped.
 #[derive(Clone, Copy)]
 pub struct Subtract(pub Width);
 
@@ -72,6 +73,7 @@ pub impl FieldFunction for MultiplyOdd as MultiplyOddFunction {
     }
 }
 
+/// The lower half above the upper one.
 #[derive(Clone, Copy)]
 pub struct SwapHalves(pub Width);
 
@@ -91,6 +93,7 @@ fn distance(reach: Width, q: u64) -> u64
     q & (reach.bits() as u64 - 1)
 }
 
+/// By the low 3, 4, 5 or 6 bits of the second operand, as the other shifts.
 #[derive(Clone, Copy)]
 pub struct ShiftLeft(pub Width);
 
@@ -102,6 +105,7 @@ pub impl FieldFunction for ShiftLeft as ShiftLeftFunction {
     }
 }
 
+/// Zeros come in.
 #[derive(Clone, Copy)]
 pub struct ShiftRight(pub Width);
 
@@ -143,6 +147,7 @@ pub impl FieldFunction for Divide as DivideFunction {
     }
 }
 
+/// Unsigned; a zero divisor gives 0 here too.
 #[derive(Clone, Copy)]
 pub struct Remainder;
 
@@ -154,6 +159,7 @@ pub impl FieldFunction for Remainder as RemainderFunction {
     }
 }
 
+/// The whole root of the first operand.
 #[derive(Clone, Copy)]
 pub struct SquareRoot;
 

@@ -2,11 +2,11 @@
 use mathlib.Core.Path.{refl}
 use mathlib.Core.Logic.{inl, inr}
 use Rattle.base.specs.declared.width.Width.{Width}
-use Rattle.base.specs.declared.width.Width.the-variants.{Byte, Half, Word, Double}
+use Rattle.base.specs.declared.width.Width.the-variants.{W8, W16, W32, W64}
 use Rattle.base.specs.Words.{bits, IsWidth}
 
 pub is-width : (w : Width) → IsWidth (bits w)
-is-width Byte = inl refl
-is-width Half = inr (inl refl)
-is-width Word = inr (inr (inl refl))
-is-width Double = inr (inr (inr refl))
+is-width W8 = inl refl
+is-width W16 = inr (inl refl)
+is-width W32 = inr (inr (inl refl))
+is-width W64 = inr (inr (inr refl))

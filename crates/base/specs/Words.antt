@@ -5,13 +5,13 @@ use mathlib.Core.Logic.{_⊎_}
 use Prim.Native.Nat.{ℕ, zero, suc, _+_, _-_, _*_, _/_, _%_, _^_, _<_}
 use lib.Dec.{eqb}
 use Rattle.base.specs.declared.width.Width.{Width}
-use Rattle.base.specs.declared.width.Width.the-variants.{Byte, Half, Word, Double}
+use Rattle.base.specs.declared.width.Width.the-variants.{W8, W16, W32, W64}
 
 abbrev pub bits : Width → ℕ
-bits Byte = 8
-bits Half = 16
-bits Word = 32
-bits Double = 64
+bits W8 = 8
+bits W16 = 16
+bits W32 = 32
+bits W64 = 64
 
 -- w is one of the widths
 abbrev pub IsWidth : ℕ → Type 0

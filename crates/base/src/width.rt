@@ -5,10 +5,10 @@ ghost use Rattle.base.specs.Words.{bits, IsWidth};
 /// The widths that a word is cut by.
 #[derive(Clone, Copy, PartialEq, Eq, Debug)]
 pub enum Width {
-    Byte,
-    Half,
-    Word,
-    Double,
+    W8,
+    W16,
+    W32,
+    W64,
 }
 
 impl Width {
@@ -17,10 +17,10 @@ impl Width {
         ensures lawful { λ r. ⌜ IsWidth r ⌝ }
     {
         match self {
-            Width::Byte => 8,
-            Width::Half => 16,
-            Width::Word => 32,
-            Width::Double => 64,
+            Width::W8 => 8,
+            Width::W16 => 16,
+            Width::W32 => 32,
+            Width::W64 => 64,
         }
     }
 
@@ -29,10 +29,10 @@ impl Width {
         ensures { λ r. ⌜ r ≡ 64 / bits self ⌝ }
     {
         match self {
-            Width::Byte => 8,
-            Width::Half => 4,
-            Width::Word => 2,
-            Width::Double => 1,
+            Width::W8 => 8,
+            Width::W16 => 4,
+            Width::W32 => 2,
+            Width::W64 => 1,
         }
     }
 }

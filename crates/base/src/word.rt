@@ -8,7 +8,7 @@ ghost use Rattle.std.specs.Slices.{found};
 ghost use Rattle.std.specs.declared.option.Option.the-variants.{Some, None};
 use crate::width::Width;
 
-/// What is worked out of the fields that stand at one place of two words.
+/// What is worked out of the fields at one place of two words.
 pub trait FieldFunction {
     ghost meaning: { Self → ℕ → ℕ → ℕ };
 
@@ -26,6 +26,7 @@ fn place(width: u32, index: u32) -> u32
     64 - width * (index + 1)
 }
 
+/// The largest value of a field.
 fn ones(width: u32) -> u64
     requires { ⌜ IsWidth width ⌝ }
     ensures { λ r. ⌜ r ≡ 2 ^ width - 1 ⌝ }
@@ -51,7 +52,7 @@ fn put_at(width: u32, index: u32, value: u64, x: u64) -> u64
     x & !(ones(width) << place) | value << place
 }
 
-/// The bytes that a mask names, all ones.
+/// The bytes that a mask names, all ones: a bit of the mask alone in each byte, carried to the byte's top bit, spread over it.
 fn byte_mask(mask: u8) -> u64
     ensures { λ r. ⌜ r ≡ word 8 (λ i. cond (named mask i) 255 0) ⌝ }
 {
@@ -79,6 +80,7 @@ pub fn zip_fields<F: FieldFunction>(width: Width, f: &F, a: u64, b: u64) -> u64
     let mut r = 0;
     for i in 0..width.fields() {
         let value = f.apply(get_at(size, i, a), get_at(size, i, b));
+        // in two steps, since no shift goes by 64
         r = (r << (size - 1) << 1) + (value & ones);
     }
     r

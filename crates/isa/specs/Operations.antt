@@ -6,7 +6,7 @@ use lib.ListN.{getD}
 use Rattle.std.specs.declared.option.Option.{Option}
 use Rattle.std.specs.declared.option.Option.the-variants.{Some, None}
 use Rattle.base.specs.declared.width.Width.{Width}
-use Rattle.base.specs.declared.width.Width.the-variants.{Byte, Half, Word, Double}
+use Rattle.base.specs.declared.width.Width.the-variants.{W8, W16, W32, W64}
 use Rattle.codec.specs.declared.instruction.Instruction.{Instruction}
 use Rattle.codec.specs.declared.instruction.Shape.{Shape}
 use Rattle.codec.specs.declared.instruction.Shape.the-variants.{Two, One, Immediate, Address, Bare}
@@ -22,18 +22,18 @@ maskOf p = getD (0b11111111 ∷ 0b11110000 ∷ 0b00001111 ∷ 0b10101010 ∷ 0b0
 
 -- the width that a WW means
 abbrev pub widthOf : ℕ → Width
-widthOf w = getD (Byte ∷ Half ∷ Word ∷ []) w Double
+widthOf w = getD (W8 ∷ W16 ∷ W32 ∷ []) w W64
 
 -- twice the width; a word is the widest
 abbrev pub doubled : Width → Width
-doubled Byte = Half
-doubled Half = Word
-doubled Word = Double
-doubled Double = Double
+doubled W8 = W16
+doubled W16 = W32
+doubled W32 = W64
+doubled W64 = W64
 
 -- how far a block of the result looks
 abbrev pub reachOf : Span → ℕ → Width
-reachOf Bit w = Byte
+reachOf Bit w = W8
 reachOf Subfield w = widthOf w
 reachOf Pair w = doubled (widthOf w)
 

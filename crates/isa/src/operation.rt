@@ -46,10 +46,10 @@ fn width_of(ww: u8) -> Width
     ensures { λ r. ⌜ r ≡ widthOf ww ⌝ }
 {
     match ww {
-        0 => Width::Byte,
-        1 => Width::Half,
-        2 => Width::Word,
-        _ => Width::Double,
+        0 => Width::W8,
+        1 => Width::W16,
+        2 => Width::W32,
+        _ => Width::W64,
     }
 }
 
@@ -57,9 +57,9 @@ fn doubled(width: Width) -> Width
     ensures { λ r. ⌜ r ≡ doubled width ⌝ }
 {
     match width {
-        Width::Byte => Width::Half,
-        Width::Half => Width::Word,
-        Width::Word | Width::Double => Width::Double,
+        Width::W8 => Width::W16,
+        Width::W16 => Width::W32,
+        Width::W32 | Width::W64 => Width::W64,
     }
 }
 
@@ -86,7 +86,7 @@ pub(crate) fn reach_of(span: Span, ww: u8) -> Width
     ensures { λ r. ⌜ r ≡ reachOf span ww ⌝ }
 {
     match span {
-        Span::Bit => Width::Byte,
+        Span::Bit => Width::W8,
         Span::Subfield => width_of(ww),
         Span::Pair => doubled(width_of(ww)),
     }

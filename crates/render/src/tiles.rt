@@ -21,7 +21,7 @@ pub fn heights_at(pixel: usize) -> u64 {
     let mut word = 0;
     for (maker, row) in HEIGHTS.iter().enumerate() {
         let height = row.get(pixel).copied().unwrap_or(0);
-        word = Width::Byte
+        word = Width::W8
             .put(maker as u32, height as u64, word)
             .unwrap_or(word);
     }
@@ -41,12 +41,12 @@ const SHADES: [char; 8] = [' ', '.', ':', '-', '=', '+', '#', '@'];
 pub impl fmt::Display for Strip<'_> as StripDisplay {
     fn fmt<W: fmt::Write>(&self, f: &mut fmt::Formatter<W>) -> fmt::Result {
         for word in self.words {
-            let pixel = Width::Byte.get(self.maker, *word).unwrap_or(0);
+            let pixel = Width::W8.get(self.maker, *word).unwrap_or(0);
             write!(f, " {pixel:>3}")?;
         }
         write!(f, "  |")?;
         for word in self.words {
-            let pixel = Width::Byte.get(self.maker, *word).unwrap_or(0);
+            let pixel = Width::W8.get(self.maker, *word).unwrap_or(0);
             let shade = SHADES[(pixel / 32 % 8) as usize];
             write!(f, "{shade}")?;
         }
