@@ -1,15 +1,18 @@
 -- What masks and shifts leave of a block of one of the widths. Assumes nothing.
+use mathlib.Core.Bool.{true}
 use mathlib.Core.Path.{_≡_, refl, sym, ap, _∙_}
 use Prim.Native.Nat.{ℕ, _+_, _-_, _*_, _/_, _%_, _^_, _≤_, _<_}
-use native.Mathlib.Nat.{mod-lt}
+use native.Mathlib.Nat.{le-of-lt}
 use native.Mathlib.Omega.{arith}
-use lib.Bits.{bitAnd, and-mask}
+use lib.Bits.{bitAnd, bitOr, and-mask}
+use lib.Dec.{eqb}
 use lib.Pow.{pow-pos, ones-split, ones-lt, high}
+use Rattle.std.proofs.shelf.Tests.{eq-eqb}
 use Rattle.base.proofs.Widths.{is-width}
 use Rattle.base.specs.declared.width.Width.{Width}
 use Rattle.base.specs.declared.width.Width.the-variants.{W8, W16, W32, W64}
 use Rattle.base.specs.Words.{bits, IsWidth}
-use Rattle.alu.specs.Blocks.{difference, even, odd, distance, tops}
+use Rattle.alu.specs.Blocks.{difference, odd, distance, tops, shiftedSigned}
 
 cut : {r : ℕ} → IsWidth r → (n : ℕ) → n % 2 ^ 64 % 2 ^ r ≡ n % 2 ^ r
 cut R n = grind arith
@@ -53,10 +56,18 @@ distance-below W32 q = omega arith
 distance-below W64 q = omega arith
 
 -- the bits that all ones lose by a shift to the right
-pub lost : (r s : ℕ) → s ≤ r → (2 ^ r - 1) - (2 ^ r - 1) / 2 ^ s ≡ tops r s
+lost : (r s : ℕ) → s ≤ r → (2 ^ r - 1) - (2 ^ r - 1) / 2 ^ s ≡ tops r s
 lost r s h =
     let d : ℕ = r - s in
     let at : r ≡ d + s = omega arith in
     let rest : (2 ^ r - 1) / 2 ^ s ≡ 2 ^ d - 1 =
     ap (λ n. (2 ^ n - 1) / 2 ^ s) at ∙ ap (λ n. n / 2 ^ s) (ones-split d s) ∙ high (2 ^ d - 1) s (ones-lt s) in
     rw rest (omega (arith, pow-pos d))
+
+-- a shift to the right of a block whose top bit is set
+pub signed-set : (w : Width) (p q : ℕ) {n by m : ℕ} → n ≡ bits w → by ≡ distance (bits w) q → m ≡ 2 ^ bits w - 1 → p / 2 ^ (n - 1) % 2 ≡ 1
+    → bitOr (p / 2 ^ by) (m - m / 2 ^ by) ≡ shiftedSigned (bits w) p q
+signed-set w p q {n} {by} {m} at far all top =
+    let set : eqb (p / 2 ^ (bits w - 1) % 2) 1 ≡ true = eq-eqb (p / 2 ^ (bits w - 1) % 2) 1 (sym (ap (λ k. p / 2 ^ (k - 1) % 2) at) ∙ top) in
+    let inside : distance (bits w) q ≤ bits w = le-of-lt (distance-below w q) in
+    rw (far, all, lost (bits w) (distance (bits w) q) inside, set)

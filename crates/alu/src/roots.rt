@@ -1,5 +1,6 @@
 //! Whole square roots.
 ghost use mathlib.Core.Path.{_≡_};
+ghost use Prim.Native.Nat.{_*_, _^_, _<_, _≤_};
 ghost use Rattle.alu.specs.Roots.{Root, rootOf};
 
 const ROOTS: [u8; 256] = [
@@ -269,13 +270,27 @@ fn root8(x: u8) -> u8
     ROOTS[x as usize]
 }
 
+/// A number above the root, by the width that x has.
+fn above(x: u64) -> u64
+    ensures square { λ r. ⌜ x < r * r ⌝ }
+    ensures small { λ r. ⌜ r ≤ 2 ^ 32 ⌝ }
+{
+    if x < 0x1_0000 {
+        0x100
+    } else if x < 0x1_0000_0000 {
+        0x1_0000
+    } else {
+        0x1_0000_0000
+    }
+}
+
 /// By bisection: low² ≤ x < high².
 fn root64(x: u64) -> u64
     ensures rule { λ r. ⌜ Root x r ⌝ }
     ensures value { λ r. ⌜ r ≡ rootOf x ⌝ }
 {
     let mut low = 0;
-    let mut high = 0x1_0000_0000;
+    let mut high = above(x);
     while high - low > 1 {
         let middle = low + (high - low) / 2;
         if middle * middle <= x {

@@ -28,7 +28,7 @@ pub struct Operation {
     pub reach: Width,
 }
 
-const MASKS: [u8; 5] = [
+static MASKS: [u8; 5] = [
     0b1111_1111,
     0b1111_0000,
     0b0000_1111,
