@@ -17,7 +17,11 @@ use manual::SetDebug;
 use std::error::AnyError;
 use std::io;
 
+/// How many words are generated for each set.
 const WORDS: u32 = 200_000;
+
+/// How many differences are told one by one.
+const TOLD: u32 = 20;
 
 fn main(rt: LibcRuntime) -> Result<(), AnyError> {
     println!(rt, "{} marked cases are part of the proof", marked_cases())?;
@@ -90,7 +94,9 @@ fn survey(rt: &impl Print, set: Set) -> io::Result<u32> {
             legal = legal.saturating_add(1);
         }
         if !is_alike(set, word, &mut numbers) {
-            println!(rt, "{set:?} {word:08x}: a difference")?;
+            if differences < TOLD {
+                println!(rt, "{set:?} {word:08x}: a difference")?;
+            }
             differences = differences.saturating_add(1);
         }
     }
