@@ -1,4 +1,4 @@
-use Rattle.base.specs.Words.{bits, field}
+use Rattle.base.specs.Words.{field}
 use Rattle.base.proofs.Bits.{Joined}
 use Rattle.base.proofs.word.zip_fields.Given as given
 
