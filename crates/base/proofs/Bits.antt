@@ -45,35 +45,45 @@ module _ {w : ℕ} (W : IsWidth w) where
         | inr ne ↦ simp (field-or, field-and, field-not W, field-low64 W, field-shl-other W, put-other W i k v x g (λ q. ne (sym q)), sub-zero, and-mask, or-zero-r, mod-mod)
       ])
 
-  -- one field more, shifted in from below
-  room : (i : ℕ) → i < 64 / w → w * i + (w - 1) + 1 ≤ 64
-  room i h = grind arith
+-- one field more, shifted in from below; w is the width's number, and n how many fields a word has
+module _ (width : Width) {w n : ℕ} (at : w ≡ bits width) (all : n ≡ 64 / bits width) where
+  cuts : IsWidth w
+  cuts = rw at (is-width width)
+
+  inside : {i : ℕ} → i < n → i < 64 / w
+  inside {i} h = rw at (omega arith)
+
+  room : {i : ℕ} → i < 64 / w → w * i + (w - 1) + 1 ≤ 64
+  room h = let W = cuts in grind arith
 
   doubled : (x : ℕ) → x * 2 ^ (w - 1) * 2 ≡ x * 2 ^ w
   doubled x =
+      let W = cuts in
       let up : w - 1 + 1 ≡ w = grind arith in
       mul-assoc x (2 ^ (w - 1)) 2 ∙ ap (λ n. x * n) (sym (pow-add 2 (w - 1) 1)) ∙ ap (λ n. x * 2 ^ n) up
 
-  pub joined-more : {f : ℕ → ℕ} {i n x v m : ℕ} → Joined w f i x → i < n → n ≡ 64 / w → v ≡ f i → m ≡ 2 ^ w - 1
+  pub joined-more : {f : ℕ → ℕ} {i x v m : ℕ} → Joined w f i x → i < n → v ≡ f i → m ≡ 2 ^ bits width - 1
       → Joined w f (i + 1) (x * 2 ^ (w - 1) % 2 ^ 64 * 2 % 2 ^ 64 + bitAnd v m)
   unfolding gathered
-  joined-more {f} {i} {n} {x} {v} {m} at test end is ones =
-      let h : i < 64 / w = omega arith in
-      let below : x < 2 ^ (w * i) = subst (λ y. y < 2 ^ (w * i)) (sym (at .is)) (gathered-lt w i f) in
-      let once : x * 2 ^ (w - 1) % 2 ^ 64 ≡ x * 2 ^ (w - 1) = shl-whole x (w * i) (w - 1) 64 below (omega (arith, room i h)) in
+  joined-more {f} {i} {x} {v} {m} so test is ones =
+      let more : w * i + (w - 1) + 1 ≤ 64 = room (inside test) in
+      let below : x < 2 ^ (w * i) = subst (λ y. y < 2 ^ (w * i)) (sym (so .is)) (gathered-lt w i f) in
+      let once : x * 2 ^ (w - 1) % 2 ^ 64 ≡ x * 2 ^ (w - 1) = shl-whole x (w * i) (w - 1) 64 below (omega arith) in
       let twice : x * 2 ^ (w - 1) * 2 % 2 ^ 64 ≡ x * 2 ^ (w - 1) * 2 =
-      shl-whole (x * 2 ^ (w - 1)) (w * i + (w - 1)) 1 64 (shl-below x (w * i) (w - 1) below) (room i h) in
-      record { is = rw (add-one, ones) (ap₂ (λ n m. n + m) (ap (λ n. n * 2 % 2 ^ 64) once ∙ twice ∙ doubled x ∙ ap (λ n. n * 2 ^ w) (at .is)) (and-mask v w ∙ ap (λ n. n % 2 ^ w) is)) }
+      shl-whole (x * 2 ^ (w - 1)) (w * i + (w - 1)) 1 64 (shl-below x (w * i) (w - 1) below) more in
+      let mask : m ≡ 2 ^ w - 1 = ones ∙ ap (λ k. 2 ^ k - 1) (sym at) in
+      record { is = rw (add-one, mask) (ap₂ (λ n m. n + m) (ap (λ n. n * 2 % 2 ^ 64) once ∙ twice ∙ doubled x ∙ ap (λ n. n * 2 ^ w) (so .is)) (and-mask v w ∙ ap (λ n. n % 2 ^ w) is)) }
 
-  pub joined-fits : {f : ℕ → ℕ} {i n x : ℕ} → Joined w f (i + 1) x → i < n → n ≡ 64 / w → x < 2 ^ 64
-  joined-fits {f} {i} at test end =
-      let h : i < 64 / w = omega arith in
+  pub joined-fits : {f : ℕ → ℕ} {i x : ℕ} → Joined w f (i + 1) x → i < n → x < 2 ^ 64
+  joined-fits {f} {i} so test =
+      let W = cuts in
+      let h : i < 64 / w = inside test in
       let small : w * (i + 1) ≤ 64 = grind arith in
-      rw (at .is) (lt-of-lt-of-le (gathered-lt w (i + 1) f) (pow-mono small))
+      rw (so .is) (lt-of-lt-of-le (gathered-lt w (i + 1) f) (pow-mono small))
 
-  pub joined-all : {f : ℕ → ℕ} {i n x : ℕ} → Joined w f i x → i ≤ n → n ≤ i → n ≡ 64 / w → x ≡ word w f
+  pub joined-all : {f : ℕ → ℕ} {i x : ℕ} → Joined w f i x → i ≤ n → n ≤ i → x ≡ word w f
   unfolding word
-  joined-all {f} {i} at low high end = let all : i ≡ 64 / w = omega arith in at .is ∙ ap (λ k. gathered w k f) all
+  joined-all {f} {i} so low high = let end : i ≡ 64 / w = rw at (omega arith) in so .is ∙ ap (λ k. gathered w k f) end
 
 -- ---- a mask by bytes
 

@@ -63,9 +63,6 @@ module _ {w : ℕ} (W : IsWidth w) where
   pub word-from-fields : (f : ℕ → ℕ) (x : ℕ) → x < 2 ^ 64 → ((i : ℕ) → i < 64 / w → field w i x ≡ f i % 2 ^ w) → x ≡ word w f
   word-from-fields f x h same = same-fields x (word w f) h (word-lt f) (λ i l. same i l ∙ sym (field-word f i l))
 
-  pub word-fields : (x : ℕ) → x < 2 ^ 64 → word w (λ i. field w i x) ≡ x
-  word-fields x h = sym (word-from-fields (λ i. field w i x) x h (λ i l. sym (mod-mod (x / 2 ^ (64 - w * suc i)) (2 ^ w))))
-
   -- the bits below, in and above a field
   split-at : (k : ℕ) → k < 64 / w → 64 ≡ w * k + w + (64 - w * suc k)
   split-at k h = grind arith
@@ -106,23 +103,31 @@ module _ {w : ℕ} (W : IsWidth w) where
   pub put-other : (j k v x : ℕ) → k < 64 / w → (j ≡ k → ⊥) → field w k (put w j v x) ≡ field w k x
   put-other j k v x h ne = field-word (λ i. cond (eqb i j) v (field w i x)) k h ∙ simp (ne-eqb k j (λ e. ne (sym e)), mod-mod)
 
--- what works bit by bit on a word works so on its fields
+-- what works on the whole word works so on its fields
 module _ (w : Width) where
+  made : (f : ℕ → ℕ) (x : ℕ) → x < 2 ^ 64 → ((i : ℕ) → i < 64 / bits w → field (bits w) i x ≡ f i) → x ≡ word (bits w) f
+  made f x h same =
+      word-from-fields (is-width w) f x h
+      (λ i l. sym (mod-mod (x / 2 ^ (64 - bits w * suc i)) (2 ^ bits w)) ∙ ap (λ n. n % 2 ^ bits w) (same i l))
+
   pub whole-and : (a b : ℕ) → a < 2 ^ 64 → b < 2 ^ 64 → bitAnd a b ≡ word (bits w) (λ i. bitAnd (field (bits w) i a) (field (bits w) i b))
-  whole-and a b ha hb = word-from-fields (is-width w) (λ i. bitAnd (field (bits w) i a) (field (bits w) i b)) (bitAnd a b) (lt-of-le-of-lt (and-le-l a b) ha) (λ i l. simp (and-shr, and-mod, mod-mod))
+  whole-and a b ha hb =
+      made (λ i. bitAnd (field (bits w) i a) (field (bits w) i b)) (bitAnd a b) (lt-of-le-of-lt (and-le-l a b) ha) (λ i l. field-and (bits w) i a b)
 
   pub whole-or : (a b : ℕ) → a < 2 ^ 64 → b < 2 ^ 64 → bitOr a b ≡ word (bits w) (λ i. bitOr (field (bits w) i a) (field (bits w) i b))
-  whole-or a b ha hb = word-from-fields (is-width w) (λ i. bitOr (field (bits w) i a) (field (bits w) i b)) (bitOr a b) (or-lt 64 a b ha hb) (λ i l. simp (or-shr, or-mod, mod-mod))
+  whole-or a b ha hb =
+      made (λ i. bitOr (field (bits w) i a) (field (bits w) i b)) (bitOr a b) (or-lt 64 a b ha hb) (λ i l. field-or (bits w) i a b)
 
   pub whole-xor : (a b : ℕ) → a < 2 ^ 64 → b < 2 ^ 64 → bitXor a b ≡ word (bits w) (λ i. bitXor (field (bits w) i a) (field (bits w) i b))
-  whole-xor a b ha hb = word-from-fields (is-width w) (λ i. bitXor (field (bits w) i a) (field (bits w) i b)) (bitXor a b) (xor-lt 64 a b ha hb) (λ i l. simp (xor-shr, xor-mod, mod-mod))
+  whole-xor a b ha hb =
+      made (λ i. bitXor (field (bits w) i a) (field (bits w) i b)) (bitXor a b) (xor-lt 64 a b ha hb) (λ i l. field-xor (bits w) i a b)
 
   pub whole-not : (a : ℕ) → a < 2 ^ 64 → 2 ^ 64 - 1 - a ≡ word (bits w) (λ i. 2 ^ bits w - 1 - field (bits w) i a)
-  whole-not a h = word-from-fields (is-width w) (λ i. 2 ^ bits w - 1 - field (bits w) i a) (2 ^ 64 - 1 - a) (ones-sub-lt 64 a)
-      (λ i l. field-not (is-width w) i a l h ∙ sym (mod-eq-of-lt (ones-sub-lt (bits w) (field (bits w) i a))))
+  whole-not a h =
+      made (λ i. 2 ^ bits w - 1 - field (bits w) i a) (2 ^ 64 - 1 - a) (ones-sub-lt 64 a) (λ i l. field-not (is-width w) i a l h)
 
   pub whole-same : (a : ℕ) → a < 2 ^ 64 → a ≡ word (bits w) (λ i. field (bits w) i a)
-  whole-same a h = sym (word-fields (is-width w) a h)
+  whole-same a h = made (λ i. field (bits w) i a) a h (λ i l. refl)
 
   pub whole-zero : 0 ≡ word (bits w) (λ i. 0)
-  whole-zero = word-from-fields (is-width w) (λ i. 0) 0 (pow-pos 64) (λ i l. simp (zero-div, zero-mod))
+  whole-zero = made (λ i. 0) 0 (pow-pos 64) (λ i l. simp (zero-div, zero-mod))
