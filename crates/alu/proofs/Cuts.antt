@@ -1,6 +1,6 @@
 -- What masks and shifts leave of a block of one of the widths. Assumes nothing.
 use mathlib.Core.Bool.{true}
-use mathlib.Core.Path.{_≡_, refl, sym, ap, _∙_}
+use mathlib.Core.Path.{_≡_, sym, ap, _∙_}
 use Prim.Native.Nat.{ℕ, _+_, _-_, _/_, _%_, _^_, _≤_, _<_}
 use native.Mathlib.Nat.{le-of-lt}
 use native.Mathlib.Omega.{arith}
@@ -28,20 +28,14 @@ borrowed R p q h = grind arith
 pub low-difference : (w : Width) (p q m : ℕ) → q < 2 ^ 64 → m ≡ 2 ^ bits w - 1 → bitAnd ((p + (2 ^ 64 - q)) % 2 ^ 64) m ≡ difference (bits w) p q
 low-difference w p q m h is = low-bits w (p + (2 ^ 64 - q)) m is ∙ borrowed (is-width w) p q h
 
-half-ones : (w : Width) → (2 ^ bits w - 1) / 2 ^ (bits w / 2) ≡ 2 ^ (bits w / 2) - 1
-half-ones W8 = refl
-half-ones W16 = refl
-half-ones W32 = refl
-half-ones W64 = refl
+half-ones : {r : ℕ} → IsWidth r → (2 ^ r - 1) / 2 ^ (r / 2) ≡ 2 ^ (r / 2) - 1
+half-ones R = grind arith
 
 pub lower-half : (w : Width) (p m n : ℕ) → m ≡ 2 ^ bits w - 1 → n ≡ bits w → bitAnd p (m / 2 ^ (n / 2)) ≡ odd (bits w) p
-lower-half w p m n is at = rw (is, at, half-ones w) (and-mask p (bits w / 2))
+lower-half w p m n is at = rw (is, at, half-ones (is-width w)) (and-mask p (bits w / 2))
 
 pub half-below : (w : Width) (p : ℕ) → p % 2 ^ (bits w / 2) < 2 ^ 32
-half-below W8 p = omega arith
-half-below W16 p = omega arith
-half-below W32 p = omega arith
-half-below W64 p = omega arith
+half-below w p = let R = is-width w in grind arith
 
 pub shift-distance : (w : Width) (q : ℕ) → bitAnd q (bits w - 1) ≡ distance (bits w) q
 shift-distance W8 q = and-mask q 3
@@ -50,10 +44,7 @@ shift-distance W32 q = and-mask q 5
 shift-distance W64 q = and-mask q 6
 
 pub distance-below : (w : Width) (q : ℕ) → distance (bits w) q < bits w
-distance-below W8 q = omega arith
-distance-below W16 q = omega arith
-distance-below W32 q = omega arith
-distance-below W64 q = omega arith
+distance-below w q = let R = is-width w in grind arith
 
 -- the bits that all ones lose by a shift to the right
 lost : (r s : ℕ) → s ≤ r → (2 ^ r - 1) - (2 ^ r - 1) / 2 ^ s ≡ tops r s
