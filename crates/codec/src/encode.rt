@@ -1,77 +1,63 @@
 //! From an instruction to its word.
 ghost use mathlib.Core.Path.{_≡_};
-ghost use Rattle.codec.specs.Assembled.{by, fixed, assembled};
-ghost use Rattle.codec.specs.Encoded.{Encoded};
+ghost use Prim.Native.Nat.{_<_};
+ghost use Rattle.codec.specs.Assembled.{lead, assembled};
+ghost use Rattle.codec.specs.Encoded.{Alone, Encoded};
+use crate::instruction::Class;
 use crate::instruction::Instruction;
 use crate::instruction::InstructionPartialEq;
 use crate::instruction::Mnemonic;
+use crate::instruction::MnemonicPartialEq;
 use crate::table::Table;
 use base::Fault;
 
-const CALCULATION: u32 = 0xA800_0000;
+/// The opcode of a class, and the function of a calculation, in their places.
+fn lead(class: Class, function: u8) -> u32
+    ensures value { λ r. ⌜ r ≡ lead class function ⌝ }
+    ensures below { λ r. ⌜ r < 0xF000_0001 ⌝ }
+{
+    match class {
+        Class::Nothing => 0xF000_0000,
+        Class::Calculate => (0b101010 << 26) + function as u32,
+        Class::Load => 0b100000 << 26,
+        Class::Store => 0b100001 << 26,
+        Class::BranchZero => 0b100010 << 26,
+        Class::BranchNotZero => 0b100011 << 26,
+    }
+}
+
+/// The parts of an instruction in their places.
+fn assemble(i: &Instruction, function: u8) -> u32
+    ensures { λ r. ⌜ r ≡ assembled function (now (i .entry)) ⌝ }
+{
+    let registers = (i.rd as u32 % 32 << 21)
+        + (i.ra as u32 % 32 << 16)
+        + (i.rb as u32 % 32 + i.amount as u32 % 32 << 11);
+    lead(i.mnemonic.kind().class, function)
+        + registers
+        + (i.ppp as u32 % 8 << 8)
+        + (i.ww as u32 % 4 << 6)
+        + i.address as u32
+}
 
 impl Table {
-    fn by(self, gold: u32, cardinal: u32) -> u32
-        ensures { λ r. ⌜ r ≡ by self gold cardinal ⌝ }
+    /// The only function number that can stand for a mnemonic.
+    fn function(self, mnemonic: Mnemonic) -> u8
+        ensures { λ r. ⌜ Alone self mnemonic r ⌝ }
     {
-        match self {
-            Table::Gold => gold,
-            Table::Cardinal => cardinal,
+        for function in 0..19 {
+            if self.row(function) == Some(mnemonic) {
+                return function;
+            }
         }
+        0
     }
 
-    /// The opcode and the function of a mnemonic, in their places.
-    fn fixed(self, mnemonic: Mnemonic) -> u32
-        ensures { λ r. ⌜ r ≡ fixed self mnemonic ⌝ }
-    {
-        match mnemonic {
-            Mnemonic::Vand => CALCULATION + 1,
-            Mnemonic::Vor => CALCULATION + 2,
-            Mnemonic::Vxor => CALCULATION + 3,
-            Mnemonic::Vnot => CALCULATION + 4,
-            Mnemonic::Vmov => CALCULATION + 5,
-            Mnemonic::Vadd => CALCULATION + 6,
-            Mnemonic::Vsub => CALCULATION + 7,
-            Mnemonic::Vmuleu => CALCULATION + 8,
-            Mnemonic::Vmulou => CALCULATION + 9,
-            Mnemonic::Vsqeu => CALCULATION + self.by(10, 16),
-            Mnemonic::Vsqou => CALCULATION + self.by(11, 17),
-            Mnemonic::Vrtth => CALCULATION + self.by(12, 13),
-            Mnemonic::Vsll => CALCULATION + self.by(13, 10),
-            Mnemonic::Vslli => CALCULATION + 14,
-            Mnemonic::Vsrl => CALCULATION + self.by(15, 11),
-            Mnemonic::Vsrli => CALCULATION + 16,
-            Mnemonic::Vsra => CALCULATION + self.by(17, 12),
-            Mnemonic::Vsrai => CALCULATION + 18,
-            Mnemonic::Vdiv => CALCULATION + 14,
-            Mnemonic::Vmod => CALCULATION + 15,
-            Mnemonic::Vsqrt => CALCULATION + 18,
-            Mnemonic::Vld => 0x8000_0000,
-            Mnemonic::Vsd => 0x8400_0000,
-            Mnemonic::Vbez => 0x8800_0000,
-            Mnemonic::Vbnez => 0x8C00_0000,
-            Mnemonic::Vnop => 0xF000_0000,
-        }
-    }
-
-    /// The only word that can decode to the instruction.
-    fn assemble(self, i: &Instruction) -> u32
-        ensures { λ r. ⌜ r ≡ assembled self (now (i .entry)) ⌝ }
-    {
-        let registers = (i.rd as u32 % 32 << 21)
-            + (i.ra as u32 % 32 << 16)
-            + (i.rb as u32 % 32 + i.amount as u32 % 32 << 11);
-        self.fixed(i.mnemonic)
-            + registers
-            + (i.ppp as u32 % 8 << 8)
-            + (i.ww as u32 % 4 << 6)
-            + i.address as u32
-    }
-
+    /// The word that decodes to the instruction. Refused where there is none.
     pub fn encode(self, i: &Instruction) -> Result<u32, Fault>
         ensures { λ r. ⌜ Encoded self (now (i .entry)) r ⌝ }
     {
-        let word = self.assemble(i);
+        let word = assemble(i, self.function(i.mnemonic));
         if self.decode(word) == Some(*i) {
             Ok(word)
         } else {

@@ -66,7 +66,7 @@ register Bare b h = omega arith
 in-range : (t : Table) (v : ℕ) → InRange (asked (decoded t v))
 in-range t v = decodes (λ o. InRange (asked o)) t v record {
   illegal = record { rd = omega arith; ra = omega arith; rb = omega arith; address = omega arith };
-  calculates = λ m op at ok. record { rd = omega arith; ra = omega arith; rb = register (kindOf m .shape) (rbOf v) (omega arith); address = omega arith };
+  calculates = λ m op at class ok. record { rd = omega arith; ra = omega arith; rb = register (kindOf m .shape) (rbOf v) (omega arith); address = omega arith };
   transfers = λ m o op at zero. record { rd = omega arith; ra = omega arith; rb = omega arith; address = omega arith };
   rests = λ is. record { rd = omega arith; ra = omega arith; rb = omega arith; address = omega arith };
 }
