@@ -34,6 +34,7 @@ pub enum Fault {
 }
 
 impl Fault {
+    /// The number that the refusal is known by.
     pub fn number(self) -> u8
         ensures { λ r. ⌜ r ≡ number self ⌝ }
     {

@@ -12,6 +12,7 @@ pub enum Width {
 }
 
 impl Width {
+    /// The width as a number of bits.
     pub fn bits(self) -> u32
         ensures value { λ r. ⌜ r ≡ bits self ⌝ }
         ensures lawful { λ r. ⌜ IsWidth r ⌝ }

@@ -12,6 +12,7 @@ use crate::width::Width;
 pub trait FieldFunction {
     ghost meaning: { Self → ℕ → ℕ → ℕ };
 
+    /// Of a field of the first word and of the second.
     fn apply(&self, p: u64, q: u64) -> u64
         ensures { λ r. ⌜ r ≡ meaning (now (self .entry)) p q ⌝ };
 }

@@ -1,7 +1,7 @@
 //! What a calculation makes of the contents of two registers.
 ghost use mathlib.Core.Path.{_≡_};
 ghost use Prim.Native.Nat.{_%_, min};
-ghost use Rattle.base.specs.Words.{bits};
+ghost use Rattle.base.specs.Words.{bits, field, word};
 ghost use Rattle.isa.specs.Calculated.{immediate, blockwise, calculated, outcome};
 use crate::operation::reach_of;
 use alu::Add;
@@ -28,6 +28,7 @@ use alu::Subtract;
 use alu::SubtractFunction;
 use alu::SwapHalves;
 use alu::SwapHalvesFunction;
+use base::FieldFunction;
 use base::Width;
 use base::zip_fields;
 use codec::Instruction;
@@ -38,6 +39,17 @@ fn immediate(reach: Width, amount: u8) -> u64
     ensures { λ r. ⌜ r ≡ immediate (bits reach) amount ⌝ }
 {
     amount as u64 % reach.bits().min(32) as u64
+}
+
+/// Each block shifted by an amount.
+fn shift_by<F: FieldFunction + Copy>(shift: F, reach: Width, amount: u8, a: u64) -> u64
+    ensures { λ r. ⌜ r ≡ word (bits reach) (λ i. F·FieldFunction .meaning shift (field (bits reach) i a) (immediate (bits reach) amount)) ⌝ }
+{
+    let by = Fixed {
+        function: shift,
+        second: immediate(reach, amount),
+    };
+    zip_fields(reach, &by, a, a)
 }
 
 /// Bitwise functions work on the whole word, the others block by block.
@@ -60,27 +72,9 @@ fn blockwise(mnemonic: Mnemonic, amount: u8, reach: Width, a: u64, b: u64) -> u6
         Mnemonic::Vsll => zip_fields(reach, &ShiftLeft(reach), a, b),
         Mnemonic::Vsrl => zip_fields(reach, &ShiftRight(reach), a, b),
         Mnemonic::Vsra => zip_fields(reach, &ShiftRightSigned(reach), a, b),
-        Mnemonic::Vslli => {
-            let by = Fixed {
-                function: ShiftLeft(reach),
-                second: immediate(reach, amount),
-            };
-            zip_fields(reach, &by, a, b)
-        }
-        Mnemonic::Vsrli => {
-            let by = Fixed {
-                function: ShiftRight(reach),
-                second: immediate(reach, amount),
-            };
-            zip_fields(reach, &by, a, b)
-        }
-        Mnemonic::Vsrai => {
-            let by = Fixed {
-                function: ShiftRightSigned(reach),
-                second: immediate(reach, amount),
-            };
-            zip_fields(reach, &by, a, b)
-        }
+        Mnemonic::Vslli => shift_by(ShiftLeft(reach), reach, amount, a),
+        Mnemonic::Vsrli => shift_by(ShiftRight(reach), reach, amount, a),
+        Mnemonic::Vsrai => shift_by(ShiftRightSigned(reach), reach, amount, a),
         Mnemonic::Vdiv => zip_fields(reach, &Divide, a, b),
         Mnemonic::Vmod => zip_fields(reach, &Remainder, a, b),
         Mnemonic::Vsqrt => zip_fields(reach, &SquareRoot, a, b),

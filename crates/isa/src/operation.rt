@@ -12,7 +12,7 @@ use codec::NOP;
 use codec::Shape;
 use codec::Span;
 
-/// What a word lacks is 0 or no. Loads, stores and branches use rD.
+/// What a word asks for. What it lacks is 0 or no. Loads, stores and branches use rD.
 #[derive(Clone, Copy, PartialEq, Eq, Debug)]
 pub struct Operation {
     pub class: Class,
@@ -22,9 +22,9 @@ pub struct Operation {
     pub reads_a: bool,
     pub reads_b: bool,
     pub address: u16,
-    /// the bytes that a calculation writes: the most significant bit stands for byte 0
+    /// The bytes that a calculation writes: the most significant bit stands for byte 0.
     pub mask: u8,
-    /// a block of the result, cut by this width, depends only on the same block of the contents
+    /// A block of the result, cut by this width, depends only on the same block of the contents.
     pub reach: Width,
 }
 
@@ -66,19 +66,13 @@ fn doubled(width: Width) -> Width
 fn calculates(shape: Shape) -> bool
     ensures { λ r. ⌜ r ≡ calculates shape ⌝ }
 {
-    match shape {
-        Shape::Two | Shape::One | Shape::Immediate => true,
-        Shape::Address | Shape::Bare => false,
-    }
+    matches!(shape, Shape::Two | Shape::One | Shape::Immediate)
 }
 
 fn reads_second(shape: Shape) -> bool
     ensures { λ r. ⌜ r ≡ readsSecond shape ⌝ }
 {
-    match shape {
-        Shape::Two => true,
-        _ => false,
-    }
+    matches!(shape, Shape::Two)
 }
 
 /// How far a block of the result looks.
@@ -93,6 +87,7 @@ pub(crate) fn reach_of(span: Span, ww: u8) -> Width
 }
 
 impl Operation {
+    /// What an instruction asks for.
     pub fn of(i: &Instruction) -> Operation
         ensures { λ r. ⌜ r ≡ described (now (i .entry)) ⌝ }
     {

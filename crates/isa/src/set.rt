@@ -12,9 +12,11 @@ pub trait InstructionSet {
 
     law lawful: { (s : Self) → Lawful (meaning s) };
 
+    /// What a word asks for.
     fn operation(&self, word: u32) -> Operation
         ensures { λ r. ⌜ r ≡ meaning (now (self .entry)) .operation word ⌝ };
 
+    /// What a word makes of the contents of rA and rB.
     fn result(&self, word: u32, a: u64, b: u64) -> u64
         ensures { λ r. ⌜ r ≡ meaning (now (self .entry)) .result word a b ⌝ };
 }
