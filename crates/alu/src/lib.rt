@@ -1,4 +1,6 @@
 //! What the functions of both instruction sets make of one block of their contents.
+#![tactic(auto)]
+
 mod block;
 mod roots;
 

@@ -1,4 +1,6 @@
 //! Banks of 64-bit words by their meaning: words that the caller lends, bytes that the caller lends, and trials over any bank.
+#![tactic(auto)]
+
 mod bytes;
 mod store;
 mod token;

@@ -1,8 +1,9 @@
-ghost use Rattle.std.specs.Prelude.{◌≡◌, Decides};
-ghost use Rattle.base.specs.Faults.{number};
+ghost use Rattle.std.specs.Prelude.{◌≡◌, ◌==◌, ◌↔◌, IsTrue, nat_eq};
+ghost use Rattle.std.specs.Cmp.{partial_equiv_from_equiv};
 ghost use Rattle.std.specs.Cmp.Rules.{comparing};
+ghost use Rattle.std.specs.Ordering.{on};
 ghost use Rattle.std.proofs.Common.{rules};
-ghost use Rattle.std.specs.Cmp as Keys;
+ghost use Rattle.base.specs.Faults.{number};
 
 /// Why a call was refused.
 #[derive(Clone, Copy, Eq, Debug)]
@@ -45,11 +46,14 @@ impl Fault {
 }
 
 impl PartialEq for Fault {
-    ghost equals = { λ x y r. Decides r (x ≡ y) };
+    ghost eq = { on number nat_eq };
 
-    ghost laws = { Keys.partial_equiv_from_equiv (Prim.search (comparing, rules)) };
+    ghost laws = { partial_equiv_from_equiv (Prim.search (comparing, rules)) };
 
-    fn eq(&self, other: &Fault) -> bool {
+    fn eq(&self, other: &Fault) -> bool
+        ensures value { result ≡ (number self.now == number other.now) }
+        ensures same { IsTrue result ↔ (self.now ≡ other.now) }
+    {
         *self as u8 == *other as u8
     }
 }

@@ -1,4 +1,6 @@
 //! A 64-bit word cut into fields of one width, and the faults of every call.
+#![tactic(auto)]
+
 mod fault;
 mod width;
 mod word;

@@ -1,4 +1,6 @@
 //! The words of two instruction sets, Gold and Cardinal: what each word means, and the one word that means it.
+#![tactic(auto)]
+
 mod decode;
 mod encode;
 mod instruction;

@@ -1,5 +1,6 @@
 //! Holds the instruction sets against cases worked out by hand, and against a second decoder and executor on many
 //! generated words, and the banks and trials against a second bank. Any difference fails the run.
+#![tactic(auto)]
 
 mod banks;
 mod bits;

@@ -1,4 +1,6 @@
 //! Instruction sets by their meaning: what each word asks for, and what it makes of the contents of two registers.
+#![tactic(auto)]
+
 mod calculation;
 mod marked;
 mod operation;

@@ -1,4 +1,6 @@
 //! Shades one row of pixels of eight makers with a Gold kernel, tries a haze over it, and prints each action.
+#![tactic(auto)]
+
 mod haze;
 mod listing;
 mod tiles;
