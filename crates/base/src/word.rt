@@ -69,8 +69,8 @@ pub fn merge(mask: u8, new: u64, old: u64) -> u64
 
 /// The word whose fields are the function of the two words' fields, each cut to its width.
 pub fn zip_fields<F: FieldFunction>(width: Width, f: &F, a: u64, b: u64) -> u64
-    ensures value { result ≡ word (bits width) (λ i. meaning f.now (field (bits width) i a) (field (bits width) i b)) }
-    ensures fields { (i : ℕ) → i < 64 / bits width → field (bits width) i result ≡ meaning f.now (field (bits width) i a) (field (bits width) i b) % 2 ^ bits width }
+    ensures value { result ≡ word (bits width) (λ i. F.meaning f.now (field (bits width) i a) (field (bits width) i b)) }
+    ensures fields { (i : ℕ) → i < 64 / bits width → field (bits width) i result ≡ F.meaning f.now (field (bits width) i a) (field (bits width) i b) % 2 ^ bits width }
 {
     let size = width.bits();
     let ones = width.ones();

@@ -10,8 +10,8 @@ pub loop-i-preserved : goal.loop-i-preserved
 loop-i-preserved g c =
     joined_more c.args.width c.bits-size.ensures.value c.fields-i-end.ensures c.loop-i.invariant c.loop-i-test.true (cc) c.ones-ones.ensures
 
-pub overflow-add-r : goal.overflow-add-r
-overflow-add-r g c =
+pub overflow_add-r : goal.overflow_add-r
+overflow_add-r g c =
     let below = joined_fits c.args.width c.bits-size.ensures.value c.fields-i-end.ensures (loop-i-preserved g c) c.loop-i-test.true in
     search rules
 

@@ -5,11 +5,11 @@ use Rattle.bank.proofs.Groups.{length-words_of, get_or-words_of}
 use Rattle.bank.proofs.AllOpen.{read_below}
 use Rattle.bank.proofs.bytes.ByteBankBank.read.Goals as goal
 
-pub overflow-mul-at : goal.overflow-mul-at
-overflow-mul-at c = omega (arith, length-words_of c.args.self.now.bytes.now)
+pub overflow_mul-at : goal.overflow_mul-at
+overflow_mul-at c = omega (arith, length-words_of c.args.self.now.bytes.now)
 
-pub slice-bounds-copy-from-slice-end-2 : goal.slice-bounds-copy-from-slice-end-2
-slice-bounds-copy-from-slice-end-2 c = omega (arith, length-words_of c.args.self.now.bytes.now)
+pub slice_bounds-copy_from_slice-end-2 : goal.slice_bounds-copy_from_slice-end-2
+slice_bounds-copy_from_slice-end-2 c = omega (arith, length-words_of c.args.self.now.bytes.now)
 
 pub returns : goal.returns
 returns c =
@@ -17,5 +17,5 @@ returns c =
     let a = c.args.address in
     let n = length-words_of bs in
     let e : 8 * a + 8 - 8 * a ≡ 8 = omega arith in
-    ap Ok (c.join.ensures ∙ ap (number_from_digits 256) (c.copy-from-slice.ensures.after ∙ ap (λ m. take m (drop (8 * a) bs)) e) ∙ sym (get_or-words_of bs a (omega arith)))
+    ap Ok (c.join.ensures ∙ ap (number_from_digits 256) (c.copy_from_slice.ensures.after ∙ ap (λ m. take m (drop (8 * a) bs)) e) ∙ sym (get_or-words_of bs a (omega arith)))
     ∙ read_below (words_of bs) a (omega arith)

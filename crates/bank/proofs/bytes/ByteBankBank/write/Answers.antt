@@ -23,14 +23,14 @@ returns-then-address-size c =
       untouched = λ k h. refl;
     }
 
-pub overflow-mul-at : goal.overflow-mul-at
-overflow-mul-at c = omega (arith, length-words_of c.args.self.now.bytes.now)
+pub overflow_mul-at : goal.overflow_mul-at
+overflow_mul-at c = omega (arith, length-words_of c.args.self.now.bytes.now)
 
-pub overflow-add-at : goal.overflow-add-at
-overflow-add-at c = omega (arith, length-words_of c.args.self.now.bytes.now)
+pub overflow_add-at : goal.overflow_add-at
+overflow_add-at c = omega (arith, length-words_of c.args.self.now.bytes.now)
 
-pub slice-bounds-copy-from-slice-end : goal.slice-bounds-copy-from-slice-end
-slice-bounds-copy-from-slice-end c = omega (arith, length-words_of c.args.self.now.bytes.now)
+pub slice_bounds-copy_from_slice-end : goal.slice_bounds-copy_from_slice-end
+slice_bounds-copy_from_slice-end c = omega (arith, length-words_of c.args.self.now.bytes.now)
 
 pub returns : goal.returns
 returns c =
@@ -40,8 +40,8 @@ returns c =
     let v = c.args.value in
     let n = length-words_of bs in
     let fits : 8 * a + 8 ≤ length bs = omega arith in
-    let e = ap (λ w. put_mid (8 * a) w bs c.copy-from-slice.new.self) (width a)
-    ∙ ap (put_mid (8 * a) 8 bs) (c.copy-from-slice.ensures.after ∙ c.split.ensures) in
+    let e = ap (λ w. put_mid (8 * a) w bs c.copy_from_slice.new.self) (width a)
+    ∙ ap (put_mid (8 * a) 8 bs) (c.copy_from_slice.ensures.after ∙ c.split.ensures) in
     record {
       answer = answer_below (words_of bs) a (omega arith);
       after = ap (λ xs. all_open (words_of xs)) e

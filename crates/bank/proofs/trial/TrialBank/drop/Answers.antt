@@ -6,17 +6,17 @@ use Rattle.bank.proofs.Calls.{own, not_own}
 use Rattle.bank.proofs.Rounds.{is_undone}
 use Rattle.bank.proofs.trial.TrialBank.drop.Goals as goal
 
-pub returns-in-err-spend : goal.returns-in-err-spend
-returns-in-err-spend g c =
+pub returns-in_err-spend : goal.returns-in_err-spend
+returns-in_err-spend g c =
     let t = state g.B.Bank.meaning c.args.self.now in
     let p = err_from_is_err_and c.from-residual.result c.from-residual.ensures.1 in
-    let e = c.in-err-spend.ensures in
+    let e = c.in_err-spend.ensures in
     let after = sym (cond-false _ _ _ (not_own t c.args.token _ e)) in
     rw (p.1, p.2) (record { answer = e; after = after; undone = is_undone t t c.args.token _ e after; lent = refl; under = refl })
 
 pub returns : goal.returns
 returns g c =
     let t = state g.B.Bank.meaning c.args.self.now in
-    let e = c.in-ok-spend.ensures in
+    let e = c.in_ok-spend.ensures in
     let after = sym (cond-true _ _ _ (own t c.args.token e)) in
     record { answer = e; after = after; undone = is_undone t _ c.args.token _ e after; lent = refl; under = refl }

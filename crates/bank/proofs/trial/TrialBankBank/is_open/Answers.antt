@@ -8,7 +8,7 @@ returns-then-address-lt-TRIAL-WORDS g c =
     let t = c.args.self.now in
     let s = g.B.Bank.meaning t.below.now in
     let a = c.args.address in
-    c.is-open.ensures ∙ open_under s a c.if-address-lt-TRIAL-WORDS.true ∙ open_shown t.ticket t.overlay s a
+    c.is_open.ensures ∙ open_under s a c.if-address-lt-TRIAL-WORDS.true ∙ open_shown t.ticket t.overlay s a
 
 pub returns-else-address-lt-TRIAL-WORDS : goal.returns-else-address-lt-TRIAL-WORDS
 returns-else-address-lt-TRIAL-WORDS g c =

@@ -5,8 +5,8 @@ use Rattle.bank.proofs.words.WordBankBank.read.Goals as goal
 pub returns-then-address-size : goal.returns-then-address-size
 returns-then-address-size c = read_past (take 65536 c.args.self.now.words.now) c.args.address (omega arith)
 
-pub offset-bounds-self-address : goal.offset-bounds-self-address
-offset-bounds-self-address c = omega (arith, length-take 65536 c.args.self.now.words.now)
+pub offset_bounds-self-address : goal.offset_bounds-self-address
+offset_bounds-self-address c = omega (arith, length-take 65536 c.args.self.now.words.now)
 
 pub bounds-self-address : goal.bounds-self-address
 bounds-self-address c = omega (arith, length-take 65536 c.args.self.now.words.now)

@@ -13,8 +13,8 @@ returns-then-address-size c =
       stays = refl;
     }
 
-pub offset-bounds-self-address : goal.offset-bounds-self-address
-offset-bounds-self-address c = omega (arith, length-take 65536 c.args.self.now.words.now)
+pub offset_bounds-self-address : goal.offset_bounds-self-address
+offset_bounds-self-address c = omega (arith, length-take 65536 c.args.self.now.words.now)
 
 pub bounds-self-address : goal.bounds-self-address
 bounds-self-address c = omega (arith, length-take 65536 c.args.self.now.words.now)

@@ -7,5 +7,5 @@ pub returns-then-value-ones : goal.returns-then-value-ones
 returns-then-value-ones c =
     let inside : c.args.index < 64 / bits c.args.self = omega arith in
     let fits : c.args.value < 2 ^ bits c.args.self = omega (arith, pow_pos (bits c.args.self)) in
-    let is = c.put-at.ensures ∙ ap (λ w. put w c.args.index c.args.value c.args.x) c.bits-size.ensures.value in
+    let is = c.put_at.ensures ∙ ap (λ w. put w c.args.index c.args.value c.args.x) c.bits-size.ensures.value in
     record { replaced = put_replaces c.args.self _ _ _ _ inside fits is; value = search rules }
