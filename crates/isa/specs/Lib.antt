@@ -1,5 +1,5 @@
 pub mod Calculated
+pub mod Laws
 pub mod Marked
 pub mod Operations
 pub mod Sets
-pub mod Laws

@@ -2,7 +2,6 @@
 ghost use Rattle.std.specs.Prelude.{◌≡◌};
 ghost use Rattle.codec.specs.declared.table.Table.TheVariants.{Gold as GoldTable, Cardinal as CardinalTable};
 ghost use Rattle.isa.specs.Sets.{Set, Lawful, set_of};
-ghost use Rattle.codec.specs.declared.table.Table.TheVariants as TableCases;
 ghost use Rattle.isa.specs.Laws;
 
 use crate::calculation::result_of;
@@ -31,7 +30,7 @@ pub struct Gold;
 impl InstructionSet for Gold {
     ghost meaning = { λ _. set_of GoldTable };
 
-    ghost lawful = { λ s. Laws.lawful TableCases.Gold };
+    ghost lawful = { λ s. Laws.lawful GoldTable };
 
     fn operation(&self, word: u32) -> Operation {
         Operation::asked(Table::Gold.decode(word))
@@ -49,7 +48,7 @@ pub struct Cardinal;
 impl InstructionSet for Cardinal {
     ghost meaning = { λ _. set_of CardinalTable };
 
-    ghost lawful = { λ s. Laws.lawful TableCases.Cardinal };
+    ghost lawful = { λ s. Laws.lawful CardinalTable };
 
     fn operation(&self, word: u32) -> Operation {
         Operation::asked(Table::Cardinal.decode(word))

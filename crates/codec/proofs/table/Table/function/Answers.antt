@@ -1,6 +1,7 @@
 use Rattle.std.proofs.Common.{sym, ◌∙◌, ⊎_elim, arith, below_more}
 use Rattle.std.proofs.lemmas.Bool.{cases_lt}
-use Rattle.codec.specs.Equality.{same_mnemonic, exact_mnemonic}
+use Rattle.codec.specs.Equality.{same_mnemonic}
+use Rattle.codec.specs.Exact.{exact_mnemonic}
 use Rattle.codec.proofs.Origins.{alone}
 use Rattle.codec.proofs.Whole.{found, missed, past_end}
 use Rattle.codec.proofs.table.Table.function.Goals as goal
