@@ -47,7 +47,7 @@ returns c =
       after = ap (λ xs. all_open (words_of xs)) e
           ∙ ap all_open (words_written bs a (bytes_of 8 v) fits refl ∙ ap (set (words_of bs) a) (number_bytes v (omega arith)))
           ∙ write_below (words_of bs) a v (omega arith);
-      stays = ap (λ xs. Lent bytes.name (rest_of xs)) e ∙ ap (Lent bytes.name) (rest_written bs a (bytes_of 8 v) fits refl (omega arith));
+      stays = ap (λ xs. Lent bytes.ghost_name (rest_of xs)) e ∙ ap (Lent bytes.ghost_name) (rest_written bs a (bytes_of 8 v) fits refl (omega arith));
       bytes = e ∙ put_mid-put_word bs a v ∙ cond_below a (word_count bs) (put_word 8 bs a v) bs (omega arith);
       untouched = λ k h. ap (λ xs. get_or xs k 0) e ∙ outside_written bs a (bytes_of 8 v) fits refl k h;
     }

@@ -9,7 +9,7 @@ use Rattle.bank.proofs.trial.TrialBank.keep.Goals as goal
 pub returns-in_err-spend : goal.returns-in_err-spend
 returns-in_err-spend g c =
     let t = state g.B.Bank.meaning c.args.self.now in
-    let p = err_from_is_err_and c.from-residual.result c.from-residual.ensures.1 in
+    let p = err_from_is_err_and c.from_residual.result c.from_residual.ensures.1 in
     let e = c.in_err-spend.ensures in
     let after = sym (cond-false _ _ _ (not_own t c.args.token _ e)) in
     rw (p.1, p.2) (record { answer = e; after = after; done = is_done t t c.args.token _ e after; lent = refl; under = refl })

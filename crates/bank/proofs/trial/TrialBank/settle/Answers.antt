@@ -16,9 +16,9 @@ loop-address-preserved g c =
     let now = c.loop-address.invariant in (
       now.0,
       now.1,
-      c.write-some.ensures.after ∙ ap (λ x. wrote_some x i (get_or u.overlay i None)) now.2
+      c.write_some.ensures.after ∙ ap (λ x. wrote_some x i (get_or u.overlay i None)) now.2
           ∙ carried_more t.overlay (m t.below.now) i (get_or u.overlay i None) c.loop-address-test.true (ap (λ x. get_or x i None) (sym now.0)),
-      c.write-some.ensures.stays ∙ now.3,
+      c.write_some.ensures.stays ∙ now.3,
       now.4,
     )
 

@@ -8,4 +8,4 @@ invariant-loop-address g l =
     × (l.self.ticket ≡ l.initial.self.ticket)
     × (g.B.Bank.meaning l.self.below.now ≡ carried l.initial.self.overlay (g.B.Bank.meaning l.initial.self.below.now) l.address)
     × (g.B.Bank.fixed l.self.below.now ≡ g.B.Bank.fixed l.initial.self.below.now)
-    × (l.self.below.name ≡ l.initial.self.below.name)
+    × (l.self.below.ghost_name ≡ l.initial.self.below.ghost_name)

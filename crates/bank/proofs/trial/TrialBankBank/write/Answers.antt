@@ -14,7 +14,7 @@ returns-in_err-read g c =
     let z = size_shown t.ticket t.overlay s in
     let r = c.in_err-read.ensures in
     let e = wrote_refused t.overlay s a c.args.value t.ticket (refused_past s x a z _ r) in
-    let p = err_from_is_err_and c.from-residual.result c.from-residual.ensures.1 in
+    let p = err_from_is_err_and c.from_residual.result c.from_residual.ensures.1 in
     record {
       answer = rw (p.1, p.2) (answer_past s x a z _ r);
       after = wrote_shown t.overlay s a c.args.value t.ticket _ e;
@@ -79,6 +79,6 @@ returns-in_ok-write g c =
     record {
       answer = answer_open s x a z _ c.in_ok-read.ensures free;
       after = wrote_shown t.overlay s a v t.ticket _ e;
-      stays = fixed_through t.below.name t.ticket s (g.B.Bank.meaning c.write.new.self) _ _ i (ap (λ u. u.marks) after) c.in_ok-write.ensures.stays;
+      stays = fixed_through t.below.ghost_name t.ticket s (g.B.Bank.meaning c.write.new.self) _ _ i (ap (λ u. u.marks) after) c.in_ok-write.ensures.stays;
       whole = e;
     }

@@ -28,5 +28,5 @@ returns c =
       answer = answer_below (take 65536 ws) c.args.address (omega arith);
       after = ap all_open (take-set-lt 65536 ws c.args.address c.args.value (omega arith))
           ∙ write_below (take 65536 ws) c.args.address c.args.value (omega arith);
-      stays = ap (Lent words.name) (drop-set-lt 65536 ws c.args.address c.args.value (omega arith));
+      stays = ap (Lent words.ghost_name) (drop-set-lt 65536 ws c.args.address c.args.value (omega arith));
     }
