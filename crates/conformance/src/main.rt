@@ -1,5 +1,5 @@
 //! Holds the instruction sets against cases worked out by hand, and against a second decoder and executor on many
-//! generated words, and the banks and trials against a second bank. Any difference fails the run.
+//! generated words; asked for `banks`, also the banks and trials against a second bank. Any difference fails the run.
 #![tactic(auto)]
 
 mod banks;
@@ -18,7 +18,7 @@ use generator::Generator;
 use isa::marked_cases;
 use lent::{misplace_token, survey_bytes, survey_words};
 use manual::Set;
-use std::io;
+use std::{env, io};
 
 /// How many words are generated for each set.
 const WORDS: u32 = 200_000;
@@ -36,7 +36,7 @@ fn main(rt: HostRuntime) -> anyhow::Result<()> {
     if differences > 0 {
         return Err(anyhow!("the instruction sets differ from their manuals"));
     }
-    if try_banks(&rt)? > 0 {
+    if env::args(&rt)?.skip(1).any(|word| word.as_str() == "banks") && try_banks(&rt)? > 0 {
         return Err(anyhow!("the banks differ from their rules"));
     }
     Ok(())

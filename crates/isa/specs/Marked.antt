@@ -1,6 +1,6 @@
 -- Words with what they mean and what they leave in r3, for the definitions to be held against.
 use Rattle.std.specs.Prelude.{◌≡◌, ℕ, List, [], ◌∷◌, Some, None, Option}
-use Rattle.std.specs.List.{AllByRecursion as All}
+use Rattle.std.specs.List.{AllByRecursion}
 use Rattle.codec.specs.declared.instruction.Instruction.{Instruction}
 use Rattle.codec.specs.declared.instruction.Mnemonic.{Mnemonic}
 use Rattle.codec.specs.declared.instruction.Mnemonic.TheVariants.{Vadd, Vmuleu, Vslli, Vsra, Vrtth, Vsll, Vdiv}
@@ -43,4 +43,4 @@ marked =
     ∷ []
 
 abbrev pub Met : List Case → Type 0
-Met = All (λ c. (decoded c.table c.code ≡ c.means) × (written (set_of c.table) c.code c.r1 c.r2 c.r3 ≡ c.after))
+Met = AllByRecursion (λ c. (decoded c.table c.code ≡ c.means) × (written (set_of c.table) c.code c.r1 c.r2 c.r3 ≡ c.after))

@@ -1,4 +1,5 @@
-//! Shades one row of pixels of eight makers with a Gold kernel, tries a haze over it, and prints each action.
+//! Shades one row of pixels of eight makers with a Gold kernel, and prints each action. Asked for `trials`, it then tries a
+//! haze over the row.
 #![tactic(auto)]
 
 mod haze;
@@ -12,7 +13,7 @@ use codec::{Class, Table};
 use haze::tell_trials;
 use isa::{Gold, InstructionSet};
 use listing::Text;
-use std::io;
+use std::{env, io};
 use tiles::{PIXELS, Strip, heights, heights_at};
 
 /// Relief shading in eight lanes of a byte. r1 has the heights, r2 those of the next pixel to the east, r3 the light,
@@ -134,5 +135,11 @@ fn main(rt: HostRuntime) -> io::Result<()> {
     show(&rt, &heights())?;
     println!(rt; "pixels after")?;
     show(&rt, &row)?;
-    tell_trials(&rt, &mut WordBank::new(&mut row))
+    if env::args(&rt)?
+        .skip(1)
+        .any(|word| word.as_str() == "trials")
+    {
+        tell_trials(&rt, &mut WordBank::new(&mut row))?;
+    }
+    Ok(())
 }
