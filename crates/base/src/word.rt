@@ -1,5 +1,5 @@
 //! The fields of a word. Field 0 is the most significant.
-ghost use Rattle.std.specs.Prelude.{◌≡◌, ℕ, suc, ◌+◌, ◌-◌, ◌*◌, ◌/◌, ◌%◌, ◌^◌, ◌<◌, ◌≤◌, ◌&&◌, ltb, IfSome, if◌then◌else◌, Some, None, nat_lt};
+ghost use Rattle.std.specs.Prelude.{◌≡◌, ℕ, suc, ◌+◌, ◌-◌, ◌*◌, ◌/◌, ◌%◌, ◌^◌, ◌<◌, ◌≤◌, ◌&&◌, IfSome, if◌then◌else◌, Some, None, nat_lt};
 ghost use Rattle.base.specs.Words.{bits, IsWidth, field, word, put, Replaced, named, masked};
 
 use crate::width::Width;
@@ -93,7 +93,7 @@ impl Width {
 
     /// The field at an index; none where a word has no such field.
     pub fn get(self, index: u32, x: u64) -> Option<u64>
-        ensures { result ≡ (if ltb index (64 / bits self) then Some (field (bits self) index x) else None) }
+        ensures { result ≡ (if nat_lt index (64 / bits self) then Some (field (bits self) index x) else None) }
     {
         if index < self.fields() {
             Some(get_at(self.bits(), index, x))
@@ -105,7 +105,7 @@ impl Width {
     /// The word with a value in the field at an index; none where there is no such field, or the value does not fit it.
     pub fn put(self, index: u32, value: u64, x: u64) -> Option<u64>
         ensures replaced { IfSome result (λ y. Replaced (bits self) index value x y) }
-        ensures value { result ≡ (if ltb index (64 / bits self) && nat_lt value (2 ^ bits self) then Some (put (bits self) index value x) else None) }
+        ensures value { result ≡ (if nat_lt index (64 / bits self) && nat_lt value (2 ^ bits self) then Some (put (bits self) index value x) else None) }
     {
         let size = self.bits();
         if index < self.fields() && value <= self.ones() {
