@@ -1,12 +1,8 @@
-ghost use Rattle.std.specs.Prelude.{◌≡◌, ◌==◌, ◌↔◌, IsTrue, nat_eq};
-ghost use Rattle.std.specs.Cmp.{partial_equiv_from_equiv};
-ghost use Rattle.std.specs.Cmp.Rules.{comparing};
-ghost use Rattle.std.specs.Ordering.{on};
-ghost use Rattle.std.proofs.Common.{rules};
+ghost use Rattle.std.specs.Prelude.{◌≡◌};
 ghost use Rattle.base.specs.Faults.{number};
 
 /// Why a call was refused.
-#[derive(Clone, Copy, Eq, Debug)]
+#[derive(Clone, Copy, PartialEq, Eq, Debug)]
 pub enum Fault {
     /// The lane width is not 8, 16, 32 or 64.
     LaneWidth = 1,
@@ -42,18 +38,5 @@ impl Fault {
         ensures { result ≡ number self }
     {
         self as u8
-    }
-}
-
-impl PartialEq for Fault {
-    ghost eq = { on number nat_eq };
-
-    ghost laws = { partial_equiv_from_equiv (Prim.search (comparing, rules)) };
-
-    fn eq(&self, other: &Fault) -> bool
-        ensures value { result ≡ (number self.now == number other.now) }
-        ensures same { IsTrue result ↔ (self.now ≡ other.now) }
-    {
-        *self as u8 == *other as u8
     }
 }

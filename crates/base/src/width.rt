@@ -1,4 +1,4 @@
-ghost use Rattle.std.specs.Prelude.{◌≡◌, ◌/◌};
+ghost use Rattle.std.specs.Prelude.{◌≡◌, ◌-◌, ◌/◌, ◌^◌};
 ghost use Rattle.base.specs.Words.{bits, IsWidth};
 
 /// The widths that a word is cut by.
@@ -34,5 +34,12 @@ impl Width {
             Width::W32 => 2,
             Width::W64 => 1,
         }
+    }
+
+    /// The largest value of a field.
+    pub fn ones(self) -> u64
+        ensures { result ≡ 2 ^ bits self - 1 }
+    {
+        u64::MAX >> (64 - self.bits())
     }
 }

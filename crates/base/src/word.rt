@@ -1,7 +1,8 @@
-//! The fields of a word. Field 0 is the most significant.
+//! All fields of a word at once.
 ghost use Rattle.std.specs.Prelude.{◌≡◌, ℕ, suc, ◌+◌, ◌-◌, ◌*◌, ◌/◌, ◌%◌, ◌^◌, ◌<◌, ◌≤◌, ◌&&◌, IfSome, if◌then◌else◌, Some, None, nat_lt};
 ghost use Rattle.base.specs.Words.{bits, IsWidth, field, word, put, Replaced, named, masked};
 
+use crate::field::Field;
 use crate::width::Width;
 
 /// What is worked out of the fields at one place of two words.
@@ -11,42 +12,6 @@ pub trait FieldFunction {
     /// Of a field of the first word and of the second.
     fn apply(&self, p: u64, q: u64) -> u64
         ensures { result ≡ meaning self.now p q };
-}
-
-/// The place of a field's lowest bit.
-fn place(width: u32, index: u32) -> u32
-    requires a_width { IsWidth width }
-    requires inside { index < 64 / width }
-    ensures value { result ≡ 64 - width * suc index }
-    ensures room { result + width ≤ 64 }
-{
-    64 - width * (index + 1)
-}
-
-/// The largest value of a field.
-fn ones(width: u32) -> u64
-    requires { IsWidth width }
-    ensures { result ≡ 2 ^ width - 1 }
-{
-    u64::MAX >> (64 - width)
-}
-
-fn get_at(width: u32, index: u32, x: u64) -> u64
-    requires a_width { IsWidth width }
-    requires inside { index < 64 / width }
-    ensures { result ≡ field width index x }
-{
-    x >> place(width, index) & ones(width)
-}
-
-fn put_at(width: u32, index: u32, value: u64, x: u64) -> u64
-    requires a_width { IsWidth width }
-    requires inside { index < 64 / width }
-    requires fits { value < 2 ^ width }
-    ensures { result ≡ put width index value x }
-{
-    let place = place(width, index);
-    x & !(ones(width) << place) | value << place
 }
 
 /// The bytes that a mask names, all ones: a bit of the mask alone in each byte, carried to the byte's top bit, spread over it.
@@ -75,43 +40,11 @@ pub fn zip_fields<F: FieldFunction>(width: Width, f: &F, a: u64, b: u64) -> u64
     let size = width.bits();
     let ones = width.ones();
     let mut r = 0;
-    for i in 0..width.fields() {
-        let value = f.apply(get_at(size, i, a), get_at(size, i, b));
+    for index in 0..width.fields() {
+        let field = Field { width, index };
+        let value = f.apply(field.get(a), field.get(b));
         // in two steps, since no shift goes by 64
         r = (r << (size - 1) << 1) + (value & ones);
     }
     r
-}
-
-impl Width {
-    /// The largest value of a field.
-    pub fn ones(self) -> u64
-        ensures { result ≡ 2 ^ bits self - 1 }
-    {
-        ones(self.bits())
-    }
-
-    /// The field at an index; none where a word has no such field.
-    pub fn get(self, index: u32, x: u64) -> Option<u64>
-        ensures { result ≡ (if nat_lt index (64 / bits self) then Some (field (bits self) index x) else None) }
-    {
-        if index < self.fields() {
-            Some(get_at(self.bits(), index, x))
-        } else {
-            None
-        }
-    }
-
-    /// The word with a value in the field at an index; none where there is no such field, or the value does not fit it.
-    pub fn put(self, index: u32, value: u64, x: u64) -> Option<u64>
-        ensures replaced { IfSome result (λ y. Replaced (bits self) index value x y) }
-        ensures value { result ≡ (if nat_lt index (64 / bits self) && nat_lt value (2 ^ bits self) then Some (put (bits self) index value x) else None) }
-    {
-        let size = self.bits();
-        if index < self.fields() && value <= self.ones() {
-            Some(put_at(size, index, value, x))
-        } else {
-            None
-        }
-    }
 }

@@ -3,16 +3,16 @@ use Rattle.base.specs.Words.{bits, word, field}
 use Rattle.base.proofs.Bits.{joined_none, joined_more, joined_fits, joined_all, zip_fields_lem}
 use Rattle.base.proofs.word.zip_fields.Goals as goal
 
-pub loop-i-init : goal.loop-i-init
-loop-i-init g c = joined_none
+pub loop-index-init : goal.loop-index-init
+loop-index-init g c = joined_none
 
-pub loop-i-preserved : goal.loop-i-preserved
-loop-i-preserved g c =
-    joined_more c.args.width c.bits-size.ensures.value c.fields-i-end.ensures c.loop-i.invariant c.loop-i-test.true (cc) c.ones-ones.ensures
+pub loop-index-preserved : goal.loop-index-preserved
+loop-index-preserved g c =
+    joined_more c.args.width c.bits-size.ensures.value c.fields-index-end.ensures c.loop-index.invariant c.loop-index-test.true (cc) c.ones-ones.ensures
 
 pub overflow_add-r : goal.overflow_add-r
 overflow_add-r g c =
-    let below = joined_fits c.args.width c.bits-size.ensures.value c.fields-i-end.ensures (loop-i-preserved g c) c.loop-i-test.true in
+    let below = joined_fits c.args.width c.bits-size.ensures.value c.fields-index-end.ensures (loop-index-preserved g c) c.loop-index-test.true in
     search rules
 
 pub returns : goal.returns
@@ -20,6 +20,6 @@ returns g c =
     let f : ℕ → ℕ → ℕ = λ w i. g.F.FieldFunction.meaning c.args.f.now (field w i c.args.a) (field w i c.args.b) in
     let at = c.bits-size.ensures.value in
     let is =
-    joined_all c.args.width at c.fields-i-end.ensures {f = f c.bits-size.result} c.loop-i.invariant c.loop-i.auto.i-end c.loop-i-test.false
+    joined_all c.args.width at c.fields-index-end.ensures {f = f c.bits-size.result} c.loop-index.invariant c.loop-index.auto.index-end c.loop-index-test.false
     ∙ ap (λ w. word w (f w)) at in
     record { value = is; fields = zip_fields_lem c.args.width (f (bits c.args.width)) is }
