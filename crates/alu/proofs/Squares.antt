@@ -1,18 +1,20 @@
 -- Roots: a table of them, by one test of all its entries; and that a number has one root. Assumes nothing.
-use Rattle.std.proofs.Common.{◌≡◌, ℕ, zero, suc, ◌*◌, ◌<◌, ◌≤◌, Bool, ◌&&◌, T, ltb, leb, List, length, get_or, ⊎_elim, arith, ltb→lt, leb→le}
+use Rattle.std.proofs.Common.{◌≡◌, ℕ, zero, suc, ◌*◌, ◌<◌, ◌≤◌, Bool, true, ◌&&◌, ltb, leb, List, length, get_or, ⊎_elim, arith}
 use Rattle.std.proofs.lemmas.Nat.{mul-le}
-use Rattle.std.proofs.lemmas.Bool.{leb-true, leb-false, cases_order, cond_both}
+use Rattle.std.proofs.lemmas.Bool.{leb-true, ltb-true, leb-false, cases_order, cond_both, and_parts}
 use Rattle.alu.specs.Roots.{Root, root_of}
-use Rattle.base.proofs.Everywhere.{every, both, at}
+use Rattle.base.proofs.Everywhere.{everywhere}
+use Rattle.std.specs.List.{list_all, enumerate_from}
 
-abbrev pub right : ℕ → ℕ → Bool
-right x r = leb (r * r) x && ltb x (suc r * suc r)
+-- r is the root of x, as one test
+abbrev pub right : ℕ × ℕ → Bool
+right e = leb (e.1 * e.1) e.0 && ltb e.0 (suc e.1 * suc e.1)
 
-pub rooted : (roots : List ℕ) → T (every right 0 roots) → (x : ℕ) → x < length roots → Root x (get_or roots x 0)
-rooted roots t x h =
+pub rooted : (roots : List ℕ) → list_all right (enumerate_from 0 roots) ≡ true → (x : ℕ) → x < length roots → Root x (get_or roots x 0)
+rooted roots all x h =
     let r = get_or roots x 0 in
-    let parts = both (leb (r * r) x) (ltb x (suc r * suc r)) (at right 0 roots t x h) in
-    record { low = leb→le (r * r) x parts.0; high = ltb→lt x (suc r * suc r) parts.1 }
+    let parts = and_parts (leb (r * r) x) (ltb x (suc r * suc r)) (everywhere right roots all x 0 h) in
+    record { low = leb-true (r * r) x parts.0; high = ltb-true x (suc r * suc r) parts.1 }
 
 least : (x r s : ℕ) → Root x r → Root x s → r ≤ s
 least x r s h k =

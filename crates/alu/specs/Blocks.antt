@@ -1,5 +1,7 @@
 -- What a function makes of one block of r bits, p of the first contents and q of the second.
 use Rattle.std.specs.Prelude.{ℕ, ◌+◌, ◌-◌, ◌*◌, ◌/◌, ◌%◌, ◌^◌, cond, ◌==◌, bit_or}
+use Rattle.alu.specs.declared.block.Half.{Half}
+use Rattle.alu.specs.declared.block.Half.TheVariants.{Even, Odd}
 
 abbrev pub sum : ℕ → ℕ → ℕ → ℕ
 sum r p q = (p + q) % 2 ^ r
@@ -13,6 +15,14 @@ even r p = p / 2 ^ (r / 2) % 2 ^ (r / 2)
 
 abbrev pub odd : ℕ → ℕ → ℕ
 odd r p = p % 2 ^ (r / 2)
+
+abbrev pub half_of : Half → ℕ → ℕ → ℕ
+half_of Even = even
+half_of Odd = odd
+
+-- of the even or of the odd subfields
+abbrev pub product : Half → ℕ → ℕ → ℕ → ℕ
+product h r p q = half_of h r p * half_of h r q
 
 abbrev pub swapped : ℕ → ℕ → ℕ
 swapped r p = odd r p * 2 ^ (r / 2) + even r p

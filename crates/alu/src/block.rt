@@ -1,6 +1,6 @@
 //! Each function on one block of the two contents. A struct's width is the block's.
 ghost use Rattle.std.specs.Prelude.{◌≡◌, ◌+◌, ◌-◌, ◌*◌, ◌/◌, ◌%◌, ◌^◌, ◌<◌};
-ghost use Rattle.alu.specs.Blocks.{sum, difference, even, odd, swapped, distance, shifted_left, shifted_right, shifted_signed, quotient, remainder};
+ghost use Rattle.alu.specs.Blocks.{sum, difference, half_of, product, swapped, distance, shifted_left, shifted_right, shifted_signed, quotient, remainder};
 ghost use Rattle.alu.specs.Roots.{root_of};
 ghost use Rattle.base.specs.Words.{bits};
 
@@ -31,44 +31,40 @@ impl FieldFunction for Subtract {
     }
 }
 
-/// The even subfield of a pair.
-fn upper(reach: Width, p: u64) -> u64
-    ensures value { result ≡ even (bits reach) p }
-    ensures below { result < 2 ^ 32 }
-{
-    let half = reach.bits() / 2;
-    (p >> half) & (reach.ones() >> half)
-}
-
-/// The odd subfield of a pair.
-fn lower(reach: Width, p: u64) -> u64
-    ensures value { result ≡ odd (bits reach) p }
-    ensures below { result < 2 ^ 32 }
-{
-    p & (reach.ones() >> (reach.bits() / 2))
-}
-
-/// The product of the even subfields of the pair that the block is.
+/// The subfields of a pair: the even one is its upper half.
 #[derive(Clone, Copy)]
-pub struct MultiplyEven(pub Width);
+pub enum Half {
+    Even,
+    Odd,
+}
 
-impl FieldFunction for MultiplyEven {
-    ghost meaning = { λ f p q. even (bits f.0) p * even (bits f.0) q };
-
-    fn apply(&self, p: u64, q: u64) -> u64 {
-        upper(self.0, p) * upper(self.0, q)
+impl Half {
+    /// The subfield of the pair that a block is.
+    fn of(self, reach: Width, p: u64) -> u64
+        ensures value { result ≡ half_of self (bits reach) p }
+        ensures below { result < 2 ^ 32 }
+    {
+        let size = reach.bits() / 2;
+        let ones = reach.ones() >> size;
+        match self {
+            Half::Even => p >> size & ones,
+            Half::Odd => p & ones,
+        }
     }
 }
 
-/// The product of the odd subfields.
+/// The product of the even or of the odd subfields.
 #[derive(Clone, Copy)]
-pub struct MultiplyOdd(pub Width);
+pub struct Multiply {
+    pub half: Half,
+    pub reach: Width,
+}
 
-impl FieldFunction for MultiplyOdd {
-    ghost meaning = { λ f p q. odd (bits f.0) p * odd (bits f.0) q };
+impl FieldFunction for Multiply {
+    ghost meaning = { λ f. product f.half (bits f.reach) };
 
     fn apply(&self, p: u64, q: u64) -> u64 {
-        lower(self.0, p) * lower(self.0, q)
+        self.half.of(self.reach, p) * self.half.of(self.reach, q)
     }
 }
 
@@ -80,7 +76,7 @@ impl FieldFunction for SwapHalves {
     ghost meaning = { λ f p q. swapped (bits f.0) p };
 
     fn apply(&self, p: u64, _q: u64) -> u64 {
-        (lower(self.0, p) << (self.0.bits() / 2)) + upper(self.0, p)
+        (Half::Odd.of(self.0, p) << (self.0.bits() / 2)) + Half::Even.of(self.0, p)
     }
 }
 
@@ -89,7 +85,7 @@ fn distance(reach: Width, q: u64) -> u64
     ensures value { result ≡ distance (bits reach) q }
     ensures below { result < bits reach }
 {
-    q & (reach.bits() as u64 - 1)
+    q & (u64::from(reach.bits()) - 1)
 }
 
 /// By the low 3, 4, 5 or 6 bits of the second operand, as the other shifts.
@@ -142,7 +138,7 @@ impl FieldFunction for Divide {
     ghost meaning = { λ _. quotient };
 
     fn apply(&self, p: u64, q: u64) -> u64 {
-        if q == 0 { 0 } else { p / q }
+        p.checked_div(q).unwrap_or(0)
     }
 }
 
@@ -154,7 +150,7 @@ impl FieldFunction for Remainder {
     ghost meaning = { λ _. remainder };
 
     fn apply(&self, p: u64, q: u64) -> u64 {
-        if q == 0 { 0 } else { p % q }
+        p.checked_rem(q).unwrap_or(0)
     }
 }
 

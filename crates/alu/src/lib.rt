@@ -5,7 +5,7 @@ mod block;
 mod roots;
 
 pub use block::{
-    Add, Divide, Fixed, MultiplyEven, MultiplyOdd, Remainder, ShiftLeft, ShiftRight,
-    ShiftRightSigned, SquareRoot, Subtract, SwapHalves,
+    Add, Divide, Fixed, Half, Multiply, Remainder, ShiftLeft, ShiftRight, ShiftRightSigned,
+    SquareRoot, Subtract, SwapHalves,
 };
 pub use roots::root;

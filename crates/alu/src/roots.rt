@@ -23,46 +23,19 @@ fn root8(x: u8) -> u8
     ROOTS[x as usize]
 }
 
-/// A number above the root, by the width that x has.
-fn above(x: u64) -> u64
-    ensures square { x < result * result }
-    ensures small { result ≤ 2 ^ 32 }
-{
-    if x < 0x1_0000 {
-        0x100
-    } else if x < 0x1_0000_0000 {
-        0x1_0000
-    } else {
-        0x1_0000_0000
-    }
-}
-
-/// By bisection: low² ≤ x < high².
-fn root64(x: u64) -> u64
-    ensures rule { Root x result }
-    ensures value { result ≡ root_of x }
-{
-    let mut low = 0;
-    let mut high = above(x);
-    while high - low > 1 {
-        let middle = low + (high - low) / 2;
-        if middle * middle <= x {
-            low = middle;
-        } else {
-            high = middle;
-        }
-    }
-    low
-}
-
 /// The largest number whose square is at most x.
+#[tactic(auto, using(crate::proofs::Squares::only_root))]
 pub fn root(x: u64) -> u64
     ensures rule { Root x result }
     ensures value { result ≡ root_of x }
 {
-    if x < 256 {
-        root8(x as u8) as u64
+    if let Ok(x) = u8::try_from(x) {
+        u64::from(root8(x))
+    } else if let Ok(x) = u16::try_from(x) {
+        u64::from(x.isqrt())
+    } else if let Ok(x) = u32::try_from(x) {
+        u64::from(x.isqrt())
     } else {
-        root64(x)
+        x.isqrt()
     }
 }

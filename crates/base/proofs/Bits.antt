@@ -127,5 +127,5 @@ put_replaces w i v x y h lt is = record {
   elsewhere = λ j g ne. ap (field (bits w) j) is ∙ put_other (is_width w) i j v x g (λ e. ne (sym e));
 }
 
-pub zip_fields_lem : (w : Width) (f : ℕ → ℕ) {r : ℕ} → r ≡ word (bits w) f → (i : ℕ) → i < 64 / bits w → field (bits w) i r ≡ f i % 2 ^ bits w
-zip_fields_lem w f is i h = ap (field (bits w) i) is ∙ field-word (is_width w) f i h
+pub field-from_word : (w : Width) (f : ℕ → ℕ) {r : ℕ} → r ≡ word (bits w) f → (i : ℕ) → i < 64 / bits w → field (bits w) i r ≡ f i % 2 ^ bits w
+field-from_word w f is i h = ap (field (bits w) i) is ∙ field-word (is_width w) f i h

@@ -1,6 +1,0 @@
-use Rattle.std.proofs.Common.{rules}
-use Rattle.alu.proofs.Cuts.{low_bits}
-use Rattle.alu.proofs.block.AddFieldFunction.apply.Goals as goal
-
-pub returns : goal.returns
-returns c = search (rules, low_bits)
