@@ -18,7 +18,7 @@ pub trait FieldFunction {
 fn byte_mask(mask: u8) -> u64
     ensures { result ≡ word 8 (λ i. (if named mask i then 255 else 0)) }
 {
-    let bits = mask as u64 * 0x0101_0101_0101_0101 & 0x8040_2010_0804_0201;
+    let bits = u64::from(mask) * 0x0101_0101_0101_0101 & 0x8040_2010_0804_0201;
     let tops = bits + 0x7f7f_7f7f_7f7f_7f7f & 0x8080_8080_8080_8080;
     (tops >> 7) * 0xff
 }

@@ -1,8 +1,9 @@
 -- Where a decoded instruction comes from. Assumes nothing.
-use Rattle.std.proofs.Common.{◌≡◌, ℕ, ◌*◌, ◌^◌, Bool, true, false, cond, ◌&&◌, T, eqb, length, get_or, Some, None, Option, sym, refl, ◌∙◌, subst, ⊎_elim, eqb→eq}
+use Rattle.std.proofs.Common.{◌≡◌, ℕ, ◌*◌, ◌^◌, Bool, true, false, cond, ◌&&◌, eqb, length, get_or, Some, None, Option, sym, refl, ◌∙◌, subst, ⊎_elim, arith}
 use Rattle.std.proofs.lemmas.List.{get_or_past}
-use Rattle.std.proofs.lemmas.Bool.{eqb-true, cases_lt}
-use Rattle.base.proofs.Everywhere.{every, both, at}
+use Rattle.std.proofs.lemmas.Bool.{eqb-true, cases_lt, and_parts}
+use Rattle.base.proofs.Everywhere.{everywhere}
+use Rattle.std.specs.List.{list_all, enumerate_from}
 use Rattle.codec.specs.declared.instruction.Class.{Class}
 use Rattle.codec.specs.declared.instruction.Class.TheVariants.{Nothing, Calculate, Load, Store, BranchZero, BranchNotZero}
 use Rattle.codec.specs.declared.instruction.Instruction.{Instruction}
@@ -56,37 +57,32 @@ calculating Store = false
 calculating BranchZero = false
 calculating BranchNotZero = false
 
-is_calculate : (c : Class) → T (calculating c) → c ≡ Calculate
+is_calculate : (c : Class) → calculating c ≡ true → c ≡ Calculate
 unfolding calculating
-is_calculate Nothing t = absurd t
-is_calculate Calculate t = refl
-is_calculate Load t = absurd t
-is_calculate Store t = absurd t
-is_calculate BranchZero t = absurd t
-is_calculate BranchNotZero t = absurd t
+is_calculate c t = grind arith
 
 -- a row of a table: its mnemonic has that number, and calculates
-right : Table → ℕ → Option Mnemonic → Bool
-right t k None = true
-right t k (Some m) = eqb (number t m) k && calculating (kind_of m).class
+right : Table → ℕ × Option Mnemonic → Bool
+right t (k, None) = true
+right t (k, Some m) = eqb (number t m) k && calculating (kind_of m).class
 
-all_right : (t : Table) → T (every (right t) 0 (rows t))
+all_right : (t : Table) → list_all (right t) (enumerate_from 0 (rows t)) ≡ true
 unfolding right number by calculating
-all_right Gold = tt
-all_right Cardinal = tt
+all_right Gold = refl
+all_right Cardinal = refl
 
-placed : (t : Table) (k : ℕ) → T (right t k (get_or (rows t) k None))
+placed : (t : Table) (k : ℕ) → right t (k, get_or (rows t) k None) ≡ true
 unfolding right
 placed t k =
-    ⊎_elim (at (right t) None (rows t) (all_right t) k) (λ past. rw (get_or_past (rows t) k None past) tt) (cases_lt k (length (rows t)))
+    ⊎_elim (everywhere (right t) (rows t) (all_right t) k None) (λ past. rw (get_or_past (rows t) k None past) refl) (cases_lt k (length (rows t)))
 
-row_right : (t : Table) (k : ℕ) (m : Mnemonic) → get_or (rows t) k None ≡ Some m → T (eqb (number t m) k) × T (calculating (kind_of m).class)
+row_right : (t : Table) (k : ℕ) (m : Mnemonic) → get_or (rows t) k None ≡ Some m → (eqb (number t m) k ≡ true) × (calculating (kind_of m).class ≡ true)
 unfolding right
-row_right t k m e = both _ _ (subst (λ o. T (right t k o)) e (placed t k))
+row_right t k m e = and_parts _ _ (subst (λ o. right t (k, o) ≡ true) e (placed t k))
 
 -- a mnemonic stands at one place of a table at most
 pub alone : (t : Table) (k : ℕ) (m : Mnemonic) → get_or (rows t) k None ≡ Some m → Alone t m k
-alone t k m e = λ j f. sym (eqb→eq _ _ (row_right t j m f).0) ∙ eqb→eq _ _ (row_right t k m e).0
+alone t k m e = λ j f. sym (eqb-true _ _ (row_right t j m f).0) ∙ eqb-true _ _ (row_right t k m e).0
 
 module _ (P : Option Instruction → Type 0) where
   either : (b : Bool) (x y : Option Instruction) → (b ≡ true → P x) → P y → P (cond b x y)

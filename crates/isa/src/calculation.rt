@@ -1,12 +1,13 @@
 //! What a calculation makes of the contents of two registers.
 ghost use Rattle.std.specs.Prelude.{◌≡◌, ◌%◌, min};
 ghost use Rattle.base.specs.Words.{bits, field, word};
-ghost use Rattle.isa.specs.Calculated.{immediate, blockwise, calculated, outcome};
+ghost use Rattle.alu.specs.Blocks.{product};
+ghost use Rattle.isa.specs.Calculated.{immediate, blockwise, calculated};
 
 use crate::operation::reach_of;
 use alu::{
-    Add, Divide, Fixed, MultiplyEven, MultiplyOdd, Remainder, ShiftLeft, ShiftRight,
-    ShiftRightSigned, SquareRoot, Subtract, SwapHalves,
+    Add, Divide, Fixed, Half, Multiply, Remainder, ShiftLeft, ShiftRight, ShiftRightSigned,
+    SquareRoot, Subtract, SwapHalves,
 };
 use base::{FieldFunction, Width, zip_fields};
 use codec::{Instruction, Mnemonic};
@@ -15,7 +16,7 @@ use codec::{Instruction, Mnemonic};
 fn immediate(reach: Width, amount: u8) -> u64
     ensures { result ≡ immediate (bits reach) amount }
 {
-    amount as u64 % reach.bits().min(32) as u64
+    u64::from(amount) % u64::from(reach.bits().min(32))
 }
 
 /// Each block shifted by an amount.
@@ -27,6 +28,13 @@ fn shift_by<F: FieldFunction + Copy>(shift: F, reach: Width, amount: u8, a: u64)
         second: immediate(reach, amount),
     };
     zip_fields(reach, &by, a, a)
+}
+
+/// Each block the product of its even or of its odd subfields.
+fn product(half: Half, reach: Width, a: u64, b: u64) -> u64
+    ensures { result ≡ word (bits reach) (λ i. product half (bits reach) (field (bits reach) i a) (field (bits reach) i b)) }
+{
+    zip_fields(reach, &Multiply { half, reach }, a, b)
 }
 
 /// Bitwise functions work on the whole word, the others block by block.
@@ -41,10 +49,10 @@ fn blockwise(mnemonic: Mnemonic, amount: u8, reach: Width, a: u64, b: u64) -> u6
         Mnemonic::Vmov => a,
         Mnemonic::Vadd => zip_fields(reach, &Add(reach), a, b),
         Mnemonic::Vsub => zip_fields(reach, &Subtract(reach), a, b),
-        Mnemonic::Vmuleu => zip_fields(reach, &MultiplyEven(reach), a, b),
-        Mnemonic::Vmulou => zip_fields(reach, &MultiplyOdd(reach), a, b),
-        Mnemonic::Vsqeu => zip_fields(reach, &MultiplyEven(reach), a, a),
-        Mnemonic::Vsqou => zip_fields(reach, &MultiplyOdd(reach), a, a),
+        Mnemonic::Vmuleu => product(Half::Even, reach, a, b),
+        Mnemonic::Vmulou => product(Half::Odd, reach, a, b),
+        Mnemonic::Vsqeu => product(Half::Even, reach, a, a),
+        Mnemonic::Vsqou => product(Half::Odd, reach, a, a),
         Mnemonic::Vrtth => zip_fields(reach, &SwapHalves(reach), a, b),
         Mnemonic::Vsll => zip_fields(reach, &ShiftLeft(reach), a, b),
         Mnemonic::Vsrl => zip_fields(reach, &ShiftRight(reach), a, b),
@@ -60,19 +68,9 @@ fn blockwise(mnemonic: Mnemonic, amount: u8, reach: Width, a: u64, b: u64) -> u6
 }
 
 /// The result of an instruction.
-fn calculated(i: &Instruction, a: u64, b: u64) -> u64
+pub(crate) fn calculated(i: &Instruction, a: u64, b: u64) -> u64
     ensures { result ≡ calculated i.now a b }
 {
     let reach = reach_of(i.mnemonic.kind().span, i.ww);
     blockwise(i.mnemonic, i.amount, reach, a, b)
-}
-
-/// The result of a decoded word; an illegal one has none.
-pub(crate) fn result_of(meant: Option<Instruction>, a: u64, b: u64) -> u64
-    ensures { result ≡ outcome meant a b }
-{
-    match meant {
-        Some(i) => calculated(&i, a, b),
-        None => 0,
-    }
 }

@@ -8,4 +8,4 @@ mod set;
 
 pub use marked::marked_cases;
 pub use operation::Operation;
-pub use set::{Cardinal, Gold, InstructionSet};
+pub use set::InstructionSet;

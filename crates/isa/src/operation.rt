@@ -1,19 +1,19 @@
 //! What a word asks for, in the terms that every instruction set shares.
 ghost use Rattle.std.specs.Prelude.{◌≡◌};
-ghost use Rattle.isa.specs.Operations.{mask_of, width_of, doubled, reach_of, calculates, reads_second, described, asked};
+ghost use Rattle.isa.specs.Operations.{mask_of, width_of, doubled, reach_of, calculates, reads_second, described};
 
 use base::Width;
-use codec::{Class, Instruction, NOP, Shape, Span};
+use codec::{Class, Instruction, Shape, Span};
 
-/// What a word asks for. What it lacks is 0 or no. Loads, stores and branches use rD.
+/// What a word asks for. What it lacks is none or 0. Loads, stores and branches use rD.
 #[derive(Clone, Copy, PartialEq, Eq, Debug)]
 pub struct Operation {
     pub class: Class,
     pub rd: u8,
-    pub ra: u8,
-    pub rb: u8,
-    pub reads_a: bool,
-    pub reads_b: bool,
+    /// The first register that a calculation reads.
+    pub ra: Option<u8>,
+    /// The second one.
+    pub rb: Option<u8>,
     pub address: u16,
     /// The bytes that a calculation writes: the most significant bit stands for byte 0.
     pub mask: u8,
@@ -32,7 +32,7 @@ static MASKS: [u8; 5] = [
 fn mask_of(ppp: u8) -> u8
     ensures { result ≡ mask_of ppp }
 {
-    if ppp < 5 { MASKS[ppp as usize] } else { 0 }
+    MASKS.get(usize::from(ppp)).copied().unwrap_or(0)
 }
 
 fn width_of(ww: u8) -> Width
@@ -79,36 +79,20 @@ pub(crate) fn reach_of(span: Span, ww: u8) -> Width
     }
 }
 
-impl Operation {
-    /// What an instruction asks for.
-    pub fn of(i: &Instruction) -> Operation
-        ensures { result ≡ described i.now }
-    {
+impl From<Instruction> for Operation {
+    ghost from_gives = { λ i o. o ≡ described i };
+
+    fn from(i: Instruction) -> Operation {
         let kind = i.mnemonic.kind();
+        let calculates = calculates(kind.shape);
         Operation {
             class: kind.class,
             rd: i.rd,
-            ra: i.ra,
-            rb: i.rb,
-            reads_a: calculates(kind.shape),
-            reads_b: reads_second(kind.shape),
+            ra: calculates.then_some(i.ra),
+            rb: reads_second(kind.shape).then_some(i.rb),
             address: i.address,
-            mask: if calculates(kind.shape) {
-                mask_of(i.ppp)
-            } else {
-                0
-            },
+            mask: if calculates { mask_of(i.ppp) } else { 0 },
             reach: reach_of(kind.span, i.ww),
-        }
-    }
-
-    /// What a decoded word asks for; an illegal one asks for what VNOP asks for.
-    pub(crate) fn asked(meant: Option<Instruction>) -> Operation
-        ensures { result ≡ asked meant }
-    {
-        match meant {
-            Some(i) => Operation::of(&i),
-            None => Operation::of(&NOP),
         }
     }
 }

@@ -1,12 +1,11 @@
-//! Instruction sets by their meaning, and the two that there are.
+//! Instruction sets by their meaning; both sets of words are such sets.
 ghost use Rattle.std.specs.Prelude.{◌≡◌};
-ghost use Rattle.codec.specs.declared.table.Table.TheVariants.{Gold as GoldTable, Cardinal as CardinalTable};
 ghost use Rattle.isa.specs.Sets.{Set, Lawful, set_of};
 ghost use Rattle.isa.specs.Laws;
 
-use crate::calculation::result_of;
+use crate::calculation::calculated;
 use crate::operation::Operation;
-use codec::Table;
+use codec::{NOP, Table};
 
 /// What every word asks for and makes of two contents. No word and no contents are refused.
 pub trait InstructionSet {
@@ -23,38 +22,17 @@ pub trait InstructionSet {
     ghost lawful: { (s : Self) → Lawful (meaning s) };
 }
 
-/// Gold, with selective writing and shifts by an amount.
-#[derive(Clone, Copy)]
-pub struct Gold;
+/// Gold has selective writing and shifts by an amount, Cardinal division and roots.
+impl InstructionSet for Table {
+    ghost meaning = { set_of };
 
-impl InstructionSet for Gold {
-    ghost meaning = { λ _. set_of GoldTable };
-
-    ghost lawful = { λ s. Laws.lawful GoldTable };
+    ghost lawful = { Laws.lawful };
 
     fn operation(&self, word: u32) -> Operation {
-        Operation::asked(Table::Gold.decode(word))
+        Operation::from(self.decode(word).unwrap_or(NOP))
     }
 
     fn result(&self, word: u32, a: u64, b: u64) -> u64 {
-        result_of(Table::Gold.decode(word), a, b)
-    }
-}
-
-/// Cardinal, with division and roots.
-#[derive(Clone, Copy)]
-pub struct Cardinal;
-
-impl InstructionSet for Cardinal {
-    ghost meaning = { λ _. set_of CardinalTable };
-
-    ghost lawful = { λ s. Laws.lawful CardinalTable };
-
-    fn operation(&self, word: u32) -> Operation {
-        Operation::asked(Table::Cardinal.decode(word))
-    }
-
-    fn result(&self, word: u32, a: u64, b: u64) -> u64 {
-        result_of(Table::Cardinal.decode(word), a, b)
+        self.decode(word).map_or(0, |i| calculated(&i, a, b))
     }
 }
