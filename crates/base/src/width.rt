@@ -11,29 +11,19 @@ pub enum Width {
 }
 
 impl Width {
-    /// The width as a number of bits.
+    /// The width as a number of bits: 8, 16, 32 or 64.
     pub fn bits(self) -> u32
         ensures value { result ≡ bits self }
         ensures lawful { IsWidth result }
     {
-        match self {
-            Width::W8 => 8,
-            Width::W16 => 16,
-            Width::W32 => 32,
-            Width::W64 => 64,
-        }
+        8 << self as u32
     }
 
     /// How many fields of this width a word has.
     pub fn fields(self) -> u32
         ensures { result ≡ 64 / bits self }
     {
-        match self {
-            Width::W8 => 8,
-            Width::W16 => 4,
-            Width::W32 => 2,
-            Width::W64 => 1,
-        }
+        8 >> self as u32
     }
 
     /// The largest value of a field.
