@@ -4,7 +4,7 @@ use crate::bits;
 use crate::manual::{Found, Name, Set};
 use base::{Fault, merge};
 use codec::{Class, Instruction, Table};
-use isa::{Cardinal, Gold, InstructionSet, Operation};
+use isa::{InstructionSet, Operation};
 
 impl Set {
     fn table(self) -> Table {
@@ -15,17 +15,11 @@ impl Set {
     }
 
     fn operation(self, word: u32) -> Operation {
-        match self {
-            Set::Gold => Gold.operation(word),
-            Set::Cardinal => Cardinal.operation(word),
-        }
+        self.table().operation(word)
     }
 
     fn result(self, word: u32, a: u64, b: u64) -> u64 {
-        match self {
-            Set::Gold => Gold.result(word, a, b),
-            Set::Cardinal => Cardinal.result(word, a, b),
-        }
+        self.table().result(word, a, b)
     }
 
     /// Whether both decoders read the word alike.
@@ -79,13 +73,13 @@ impl Set {
         let Some(found) = self.decode(word) else {
             return asked.class == Class::Nothing && asked.mask == 0 && asked.reach.bits() == 8;
         };
+        let calculates = class(found.kind) == Class::Calculate;
+        let reads_two = calculates && reads_two(found.kind);
         asked.class == class(found.kind)
             && asked.rd == found.rd
-            && asked.ra == found.ra
-            && asked.rb == found.rb
+            && asked.ra == calculates.then_some(found.ra)
+            && asked.rb == reads_two.then_some(found.rb)
             && asked.address == found.address
-            && asked.reads_a == (asked.class == Class::Calculate)
-            && asked.reads_b == (asked.class == Class::Calculate && reads_two(found.kind))
             && asked.reach.bits() == reach(&found)
     }
 }

@@ -11,7 +11,7 @@ use bank::WordBank;
 use base::merge;
 use codec::{Class, Table};
 use haze::tell_trials;
-use isa::{Gold, InstructionSet};
+use isa::InstructionSet;
 use listing::Text;
 use std::{env, io};
 use tiles::{PIXELS, Strip, heights, heights_at};
@@ -77,13 +77,13 @@ fn read(registers: &[u64; 32], register: u8) -> u64 {
 
 /// Works the calculation that a word asks for; none where it asks for something else.
 fn calculate(registers: &mut [u64; 32], word: u32) -> Option<u64> {
-    let asked = Gold.operation(word);
+    let asked = Table::Gold.operation(word);
     if asked.class != Class::Calculate {
         return None;
     }
-    let a = read(registers, asked.ra);
-    let b = read(registers, asked.rb);
-    let result = Gold.result(word, a, b);
+    let a = asked.ra.map_or(0, |register| read(registers, register));
+    let b = asked.rb.map_or(0, |register| read(registers, register));
+    let result = Table::Gold.result(word, a, b);
     let value = merge(asked.mask, result, read(registers, asked.rd));
     registers[asked.rd as usize % 32] = value;
     Some(value)
