@@ -28,26 +28,26 @@ right : Table → ℕ → Option Mnemonic → Bool
 right t k None = true
 right t k (Some m) = eqb (number t m) k && classes.ghosts.eq (kind_of m).class Calculate
 
-at : Table → ℕ → Bool
-at t k = right t k (get_or (rows t) k None)
+right_at : Table → ℕ → Bool
+right_at t k = right t k (get_or (rows t) k None)
 
 long : (t : Table) → length (rows t) ≡ 19
 long Gold = refl
 long Cardinal = refl
 
-all_right : (t : Table) → agree_below (at t) (λ k. true) 19 ≡ true
-unfolding at right number
+all_right : (t : Table) → agree_below (right_at t) (λ k. true) 19 ≡ true
+unfolding right_at right number
 all_right Gold = refl
 all_right Cardinal = refl
 
-right-at : (t : Table) (k : ℕ) → right t k (get_or (rows t) k None) ≡ true
-unfolding at right
-right-at t k = ⊎_elim (agree_below_at (at t) (λ k. true) 19 k (all_right t)) (λ past. rw (get_or_past (rows t) k None (omega (arith, long t))) refl) (cases_lt k 19)
+always_right : (t : Table) (k : ℕ) → right t k (get_or (rows t) k None) ≡ true
+unfolding right_at right
+always_right t k = ⊎_elim (agree_below_at (right_at t) (λ k. true) 19 k (all_right t)) (λ past. rw (get_or_past (rows t) k None (omega (arith, long t))) refl) (cases_lt k 19)
 
 row_right : (t : Table) (k : ℕ) (m : Mnemonic) → get_or (rows t) k None ≡ Some m → (number t m ≡ k) × ((kind_of m).class ≡ Calculate)
 unfolding right
 row_right t k m e =
-    let is = and_parts _ _ (subst (λ o. right t k o ≡ true) e (right-at t k)) in
+    let is = and_parts _ _ (subst (λ o. right t k o ≡ true) e (always_right t k)) in
     (eqb-true _ _ is.0, same_true the_type tt _ _ is.1)
 
 -- a mnemonic stands at one place of a table at most
