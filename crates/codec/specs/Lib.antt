@@ -1,6 +1,5 @@
 pub mod Assembled
 pub mod Decoded
 pub mod Encoded
-pub mod Equality
 pub mod Exact
 pub mod Tables

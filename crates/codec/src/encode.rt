@@ -14,7 +14,7 @@ fn lead(class: Class, function: u8) -> u32
 {
     match class {
         Class::Nothing => 0xF000_0000,
-        Class::Calculate => (0b101010 << 26) + function as u32,
+        Class::Calculate => (0b101010 << 26) + u32::from(function),
         Class::Load => 0b100000 << 26,
         Class::Store => 0b100001 << 26,
         Class::BranchZero => 0b100010 << 26,
@@ -26,14 +26,13 @@ fn lead(class: Class, function: u8) -> u32
 fn assemble(i: &Instruction, function: u8) -> u32
     ensures { result ≡ assembled function i.now }
 {
-    let registers = (i.rd as u32 % 32 << 21)
-        + (i.ra as u32 % 32 << 16)
-        + (i.rb as u32 % 32 + i.amount as u32 % 32 << 11);
     lead(i.mnemonic.kind().class, function)
-        + registers
-        + (i.ppp as u32 % 8 << 8)
-        + (i.ww as u32 % 4 << 6)
-        + i.address as u32
+        + (u32::from(i.rd % 32) << 21)
+        + (u32::from(i.ra % 32) << 16)
+        + (u32::from(i.rb % 32) + u32::from(i.amount % 32) << 11)
+        + (u32::from(i.ppp % 8) << 8)
+        + (u32::from(i.ww % 4) << 6)
+        + u32::from(i.address)
 }
 
 impl Table {
@@ -41,12 +40,8 @@ impl Table {
     fn function(self, mnemonic: Mnemonic) -> u8
         ensures { Alone self mnemonic result }
     {
-        for function in 0..19 {
-            if self.row(function) == Some(mnemonic) {
-                return function;
-            }
-        }
-        0
+        let row = self.rows().iter().position(|row| *row == Some(mnemonic));
+        row.unwrap_or(0) as u8
     }
 
     /// The word that decodes to the instruction. Refused where there is none.

@@ -5,6 +5,7 @@ mod decode;
 mod encode;
 mod instruction;
 mod table;
+mod word;
 
 pub use decode::NOP;
 pub use instruction::{Class, Instruction, Kind, Mnemonic, Shape, Span};

@@ -1,6 +1,0 @@
-use Rattle.std.proofs.Common.{rules}
-use Rattle.std.proofs.lemmas.Nat.{one_shl}
-use Rattle.codec.proofs.decode.part.Goals as goal
-
-pub returns : goal.returns
-returns c = search (rules, one_shl)
