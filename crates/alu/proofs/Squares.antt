@@ -1,19 +1,18 @@
 -- Roots: a table of them, by one test of all its entries; and that a number has one root. Assumes nothing.
-use Rattle.std.proofs.Common.{◌≡◌, ℕ, zero, suc, ◌*◌, ◌<◌, ◌≤◌, Bool, true, ◌&&◌, ltb, leb, List, length, get_or, ⊎_elim, arith}
+use Rattle.std.proofs.Common.{◌≡◌, ℕ, zero, suc, ◌*◌, ◌<◌, ◌≤◌, Bool, true, ◌&&◌, ltb, leb, List, get_or, ⊎_elim, arith}
 use Rattle.std.proofs.lemmas.Nat.{mul-le}
-use Rattle.std.proofs.lemmas.Bool.{leb-true, ltb-true, leb-false, cases_order, cond_both, and_parts}
+use Rattle.std.proofs.lemmas.Bool.{leb-true, ltb-true, leb-false, cases_order, cond_both, and_parts, agree_below, agree_below_at}
 use Rattle.alu.specs.Roots.{Root, root_of}
-use Rattle.base.proofs.Everywhere.{everywhere}
-use Rattle.std.specs.List.{list_all, enumerate_from}
 
 -- r is the root of x, as one test
-abbrev pub right : ℕ × ℕ → Bool
-right e = leb (e.1 * e.1) e.0 && ltb e.0 (suc e.1 * suc e.1)
+abbrev pub right : ℕ → ℕ → Bool
+right x r = leb (r * r) x && ltb x (suc r * suc r)
 
-pub rooted : (roots : List ℕ) → list_all right (enumerate_from 0 roots) ≡ true → (x : ℕ) → x < length roots → Root x (get_or roots x 0)
+-- a table of the roots of bytes, tested at all of them
+pub rooted : (roots : List ℕ) → agree_below (λ x. right x (get_or roots x 0)) (λ x. true) 256 ≡ true → (x : ℕ) → x < 256 → Root x (get_or roots x 0)
 rooted roots all x h =
     let r = get_or roots x 0 in
-    let parts = and_parts (leb (r * r) x) (ltb x (suc r * suc r)) (everywhere right roots all x 0 h) in
+    let parts = and_parts (leb (r * r) x) (ltb x (suc r * suc r)) (agree_below_at (λ x. right x (get_or roots x 0)) (λ x. true) 256 x all h) in
     record { low = leb-true (r * r) x parts.0; high = ltb-true x (suc r * suc r) parts.1 }
 
 least : (x r s : ℕ) → Root x r → Root x s → r ≤ s
