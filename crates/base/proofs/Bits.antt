@@ -1,11 +1,10 @@
 -- Masks and shifts on words, by their fields.
-use Rattle.std.proofs.Common.{◌≡◌, ℕ, zero, suc, ◌+◌, ◌-◌, ◌*◌, ◌/◌, ◌%◌, ◌^◌, ◌<◌, ◌≤◌, Bool, true, false, cond, ◌&&◌, eqb, sym, refl, ap, ◌∙◌, subst, ap₂, inl, inr, lt_of_lt_of_le, lt_of_le_of_lt, mod-lt, mul_assoc, add-one, arith, pow_pos, pow_mono, pow-add}
+use Rattle.std.proofs.Common.{◌≡◌, ℕ, suc, ◌+◌, ◌-◌, ◌*◌, ◌/◌, ◌%◌, ◌^◌, ◌<◌, ◌≤◌, Bool, true, false, cond, eqb, sym, refl, ap, ◌∙◌, subst, ap₂, inl, inr, lt_of_lt_of_le, lt_of_le_of_lt, mod-lt, mul_assoc, add-one, arith, pow_pos, pow_mono, pow-add}
 use native.Mathlib.Nat.{mod-mod, sub_self, sub-zero}
 use lib.Bits.{bit_and, bit_or, and_mask, and_zero_r, or_zero_l, or_zero_r, or_lt, and_le_l}
 use lib.Pow.{ones_lt}
 use Rattle.std.proofs.lemmas.Nat.{shl_whole, shl_below}
-use Rattle.std.proofs.lemmas.Bool.{cases_eq}
-use Rattle.std.proofs.lemmas.Bool.Decides.{Decides-below_and, Decides-eqb}
+use Rattle.std.proofs.lemmas.Bool.{agree_below_at, cases_eq, eqb-true}
 use Rattle.base.specs.declared.width.Width.{Width}
 use Rattle.base.specs.Words.{bits, Replaced, IsWidth, field, gathered, word, put, named, masked}
 use Rattle.base.proofs.Widths.{is_width}
@@ -88,14 +87,9 @@ bytes m = bit_and (bit_and (m * 0x0101_0101_0101_0101) 0x8040_2010_0804_0201 + 0
 abbrev pub named_bytes : ℕ → ℕ
 named_bytes m = word 8 (λ i. cond (named m i) 255 0)
 
--- the rule of `bytes`, tested at each mask below n
-abbrev agree : ℕ → Bool
-agree zero = true
-agree (suc m) = eqb (bytes m) (named_bytes m) && agree m
-
 pub bytes_are : (m : ℕ) → m < 256 → bytes m ≡ named_bytes m
 unfolding word gathered
-bytes_are = (Decides-below_and (λ m. eqb (bytes m) (named_bytes m)) (λ m. bytes m ≡ named_bytes m) agree (λ m. Decides-eqb (bytes m) (named_bytes m)) refl (λ _. refl) 256).0 refl
+bytes_are m h = eqb-true _ _ (agree_below_at (λ m. eqb (bytes m) (named_bytes m)) (λ m. true) 256 m refl h)
 
 choose : (b : Bool) (p q : ℕ) → bit_or (bit_and p (cond b 255 0 % 256)) (bit_and q (255 - cond b 255 0 % 256)) ≡ cond b p q % 256
 choose true p q = simp (and_zero_r, or_zero_r, and_mask p 8)
