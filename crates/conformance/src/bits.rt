@@ -1,41 +1,37 @@
 //! The calculations of both sets, bit by bit and subfield by subfield.
 
-use crate::manual::{Found, Name};
-use crate::subfield::{Subfield, bit, with_bit};
+ghost use Rattle.std.specs.Prelude.{◌<◌};
 
-/// The new contents of rD, from the contents of rA and rB and the old ones of rD. An instruction
-/// that calculates nothing leaves them as they are.
-pub fn execute(found: &Found, a: u64, b: u64, old: u64) -> u64 {
-    match result(found, a, b) {
-        Some(new) => written(old, new, found.ppp),
-        None => old,
-    }
+use crate::subfield::{Subfield, bit, gathered};
+use codec::{Instruction, Mnemonic};
+
+/// What rA, rB and rD hold before a word.
+#[derive(Clone, Copy)]
+pub struct Registers {
+    pub a: u64,
+    pub b: u64,
+    pub d: u64,
 }
 
-/// The whole result, before PPP chooses from it.
-fn result(found: &Found, a: u64, b: u64) -> Option<u64> {
-    match found.kind {
-        Name::Vld | Name::Vsd | Name::Vbez | Name::Vbnez | Name::Vnop => None,
-        Name::Vand | Name::Vor | Name::Vxor | Name::Vnot | Name::Vmov => {
-            Some(on_bits(found.kind, a, b))
-        }
-        Name::Vmuleu => Some(products(found.ww, a, b, false)),
-        Name::Vmulou => Some(products(found.ww, a, b, true)),
-        Name::Vsqeu => Some(products(found.ww, a, a, false)),
-        Name::Vsqou => Some(products(found.ww, a, a, true)),
-        _ => Some(on_subfields(found, a, b)),
-    }
+/// What rD holds after an instruction. One that calculates nothing leaves it as it is.
+pub fn execute(i: &Instruction, before: &Registers) -> u64 {
+    result(i, before.a, before.b).map_or(before.d, |new| {
+        gathered(64, |place| {
+            bit(
+                if is_written(place / 8, i.ppp) {
+                    new
+                } else {
+                    before.d
+                },
+                place,
+            )
+        })
+    })
 }
 
-/// `old` with the bytes of `new` that `ppp` names.
-fn written(old: u64, new: u64, ppp: u8) -> u64 {
-    let mut register = old;
-    for i in 0..64 {
-        if is_written(i / 8, ppp) {
-            register = with_bit(register, i, bit(new, i));
-        }
-    }
-    register
+/// The bytes that `ppp` names. The most significant bit stands for byte 0.
+pub fn mask(ppp: u8) -> u8 {
+    (0..8).fold(0, |mask, byte| mask << 1 | u8::from(is_written(byte, ppp)))
 }
 
 /// Whether `ppp` names this byte. Byte 0 is the most significant.
@@ -50,82 +46,83 @@ fn is_written(byte: u32, ppp: u8) -> bool {
     }
 }
 
-fn on_bits(kind: Name, a: u64, b: u64) -> u64 {
-    let mut register = 0;
-    for i in 0..64 {
-        register = with_bit(register, i, on_bit(kind, bit(a, i), bit(b, i)));
-    }
-    register
+/// The whole result, before PPP chooses from it.
+fn result(i: &Instruction, a: u64, b: u64) -> Option<u64> {
+    let size = 3 + u32::from(i.ww % 4);
+    let by = amount(i);
+    let new = match i.mnemonic {
+        Mnemonic::Vld | Mnemonic::Vsd | Mnemonic::Vbez | Mnemonic::Vbnez | Mnemonic::Vnop => {
+            return None;
+        }
+        Mnemonic::Vand => on_bits(a, b, |p, q| p && q),
+        Mnemonic::Vor => on_bits(a, b, |p, q| p || q),
+        Mnemonic::Vxor => on_bits(a, b, |p, q| p != q),
+        Mnemonic::Vnot => on_bits(a, b, |p, _| !p),
+        Mnemonic::Vmov => on_bits(a, b, |p, _| p),
+        Mnemonic::Vadd => on_subfields(size, a, b, |x, y| x.plus(y)),
+        Mnemonic::Vsub => on_subfields(size, a, b, |x, y| x.minus(y)),
+        Mnemonic::Vmuleu => on_subfields(size + 1, a, b, |x, y| {
+            x.first_half().times(&y.first_half())
+        }),
+        Mnemonic::Vmulou => on_subfields(size + 1, a, b, |x, y| {
+            x.second_half().times(&y.second_half())
+        }),
+        Mnemonic::Vsqeu => on_subfields(size + 1, a, b, |x, _| {
+            x.first_half().times(&x.first_half())
+        }),
+        Mnemonic::Vsqou => on_subfields(size + 1, a, b, |x, _| {
+            x.second_half().times(&x.second_half())
+        }),
+        Mnemonic::Vrtth => on_subfields(size, a, b, |x, _| x.halves_swapped()),
+        Mnemonic::Vsll => on_subfields(size, a, b, |x, y| x.shifted_left(y.low_bits(size))),
+        Mnemonic::Vsrl => on_subfields(size, a, b, |x, y| {
+            x.shifted_right(y.low_bits(size), false)
+        }),
+        Mnemonic::Vsra => on_subfields(size, a, b, |x, y| {
+            x.shifted_right(y.low_bits(size), x.bit(0))
+        }),
+        Mnemonic::Vslli => on_subfields(size, a, b, |x, _| x.shifted_left(by)),
+        Mnemonic::Vsrli => on_subfields(size, a, b, |x, _| x.shifted_right(by, false)),
+        Mnemonic::Vsrai => on_subfields(size, a, b, |x, _| x.shifted_right(by, x.bit(0))),
+        Mnemonic::Vdiv => on_subfields(size, a, b, |x, y| x.divided(y).quotient),
+        Mnemonic::Vmod => on_subfields(size, a, b, |x, y| x.divided(y).remainder),
+        Mnemonic::Vsqrt => on_subfields(size, a, b, |x, _| x.root()),
+    };
+    Some(new)
 }
 
-fn on_bit(kind: Name, p: bool, q: bool) -> bool {
-    match kind {
-        Name::Vand => p && q,
-        Name::Vor => p || q,
-        Name::Vxor => p != q,
-        Name::Vnot => !p,
-        _ => p,
-    }
+/// What a function makes of the bits at each place.
+fn on_bits<F: Fn(bool, bool) -> bool>(a: u64, b: u64, on_bit: F) -> u64
+    requires { F.IsAlwaysCallable on_bit }
+{
+    gathered(64, |i| on_bit(bit(a, i), bit(b, i)))
 }
 
-/// The result of each subfield in its place.
-fn on_subfields(found: &Found, a: u64, b: u64) -> u64 {
-    let size = 3 + u32::from(found.ww % 4);
+/// What a function makes of each two subfields, in their place. A subfield has 2 to the power of `size` bits.
+fn on_subfields<F: Fn(&Subfield, &Subfield) -> Subfield>(
+    size: u32,
+    a: u64,
+    b: u64,
+    on_subfield: F,
+) -> u64
+    requires fits { size < 32 }
+    requires callable { F.IsAlwaysCallable on_subfield }
+{
     let width = 1 << size;
-    let mut register = 0;
-    for k in 0..64u32 >> size {
+    (0..64u32 >> size).fold(0, |register, k| {
         let start = k << size;
         let x = Subfield::read(a, start, width);
         let y = Subfield::read(b, start, width);
-        register = on_subfield(found, &x, &y).write(register, start);
-    }
-    register
-}
-
-fn on_subfield(found: &Found, x: &Subfield, y: &Subfield) -> Subfield {
-    match found.kind {
-        Name::Vadd => x.plus(y),
-        Name::Vsub => x.minus(y),
-        Name::Vrtth => x.halves_swapped(),
-        Name::Vsll => x.shifted_left(by_register(found, y)),
-        Name::Vsrl => x.shifted_right(by_register(found, y), false),
-        Name::Vsra => x.shifted_right(by_register(found, y), x.bit(0)),
-        Name::Vslli => x.shifted_left(by_amount(found)),
-        Name::Vsrli => x.shifted_right(by_amount(found), false),
-        Name::Vsrai => x.shifted_right(by_amount(found), x.bit(0)),
-        Name::Vdiv => x.divided(y).quotient,
-        Name::Vmod => x.divided(y).remainder,
-        Name::Vsqrt => x.root(),
-        _ => *x,
-    }
-}
-
-/// How far a shift by a register goes: the low 3, 4, 5 or 6 bits of its subfield.
-fn by_register(found: &Found, y: &Subfield) -> u32 {
-    y.low_bits(3 + u32::from(found.ww % 4))
+        on_subfield(&x, &y).write(register, start)
+    })
 }
 
 /// How far a shift by an amount goes: the low 3, 4, 5 or, once more, 5 bits of it.
-fn by_amount(found: &Found) -> u32 {
-    let amount = u32::from(found.amount);
-    match found.ww {
+fn amount(i: &Instruction) -> u32 {
+    let amount = u32::from(i.amount);
+    match i.ww {
         0 => amount % 8,
         1 => amount % 16,
         _ => amount % 32,
     }
-}
-
-/// The products of the even or the odd subfields, each in the place of its pair.
-fn products(ww: u8, a: u64, b: u64, odd: bool) -> u64 {
-    let size = 3 + u32::from(ww % 4);
-    let width = 1 << size;
-    let skipped = if odd { width } else { 0 };
-    let mut register = 0;
-    for pair in 0..32u32 >> size {
-        let start = pair << (size + 1);
-        let x = Subfield::read(a, start.wrapping_add(skipped), width);
-        let y = Subfield::read(b, start.wrapping_add(skipped), width);
-        register = x.times(&y).write(register, start);
-    }
-    register
 }

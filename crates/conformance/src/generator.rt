@@ -1,6 +1,7 @@
 //! Test words and register contents from a fixed seed.
 ghost use Rattle.std.specs.Prelude.{◌<◌};
 
+use crate::bits::Registers;
 use bank::End;
 use codec::{Instruction, NOP, Table};
 
@@ -140,7 +141,7 @@ impl Generator {
     }
 
     /// The contents of a register.
-    pub fn contents(&mut self) -> u64 {
+    fn contents(&mut self) -> u64 {
         match self.below(8) {
             0 => 0,
             1 => u64::MAX,
@@ -152,20 +153,26 @@ impl Generator {
     }
 
     fn edge_bytes(&mut self) -> u64 {
-        let mut contents = 0;
-        for _ in 0..8 {
-            contents = contents << 8 | EDGES[self.below(4) as usize];
-        }
-        contents
+        (0..8).fold(
+            0,
+            |contents, _| contents << 8 | EDGES[self.below(4) as usize],
+        )
     }
 
     /// A number below 16 in each subfield of one of the widths.
     fn small_numbers(&mut self) -> u64 {
         let size = 3 + self.below(4);
-        let mut contents = 0;
-        for k in 0..64u32 >> size {
-            contents |= u64::from(self.below(16)) << ((k << size) % 64);
+        (0..64u32 >> size).fold(0, |contents, k| {
+            contents | u64::from(self.below(16)) << ((k << size) % 64)
+        })
+    }
+
+    /// The contents of the registers of a word.
+    pub fn registers(&mut self) -> Registers {
+        Registers {
+            a: self.contents(),
+            b: self.contents(),
+            d: self.contents(),
         }
-        contents
     }
 }
