@@ -18,6 +18,7 @@ use generator::Generator;
 use isa::marked_cases;
 use lent::{misplace_token, survey_bytes, survey_words};
 use manual::{CARDINAL, GOLD, Manual};
+use std::alloc::AllocError;
 use std::num::Saturating;
 use std::{env, io};
 
@@ -51,17 +52,29 @@ fn try_banks(rt: &HostRuntime) -> anyhow::Result<u32> {
     let mut numbers = Generator::new(2);
     let mut differences = Saturating(misplace_token());
     println!(rt; "a token for the wrong trial bank: {differences} differences")?;
-    for count in [0, 1, 5, 1030, 65_540] {
-        let found = survey_words(rt.alloc(), count, &mut numbers)?;
+    differences += try_sizes(rt, "word", &[0, 1, 5, 1030, 65_540], |count| {
+        survey_words(rt.alloc(), count, &mut numbers)
+    })?;
+    differences += try_sizes(rt, "byte", &[0, 7, 8, 20, 8243, 524_300], |count| {
+        survey_bytes(rt.alloc(), count, &mut numbers)
+    })?;
+    Ok(differences.0)
+}
+
+/// Counts the differences that a survey finds at banks of these sizes.
+fn try_sizes<F: FnMut(usize) -> Result<u32, AllocError>>(
+    rt: &impl Print,
+    kind: &str,
+    counts: &[usize],
+    mut survey: F,
+) -> anyhow::Result<u32>
+    requires { F.IsAlwaysCallable survey }
+{
+    let mut differences = Saturating(0);
+    for count in counts {
+        let found = survey(*count)?;
         println!(rt;
-            "a word bank, {count} lent, and trials over it: {SURVEY_CALLS} calls, {found} differences"
-        )?;
-        differences += found;
-    }
-    for count in [0, 7, 8, 20, 8243, 524_300] {
-        let found = survey_bytes(rt.alloc(), count, &mut numbers)?;
-        println!(rt;
-            "a byte bank, {count} lent, and trials over it: {SURVEY_CALLS} calls, {found} differences"
+            "a {kind} bank, {count} lent, and trials over it: {SURVEY_CALLS} calls, {found} differences"
         )?;
         differences += found;
     }
@@ -70,27 +83,22 @@ fn try_banks(rt: &HostRuntime) -> anyhow::Result<u32> {
 
 /// Counts the cases that come out wrong.
 fn try_cases(rt: &impl Print, manual: &Manual) -> io::Result<u32> {
-    let Manual {
-        table,
-        cases,
-        illegal_words,
-        ..
-    } = manual;
+    let table = manual.table;
     let mut wrong = Saturating(0);
-    for case in *cases {
+    for case in manual.cases {
         if !is_right(manual, case) {
             println!(rt; "{table:?} {:08x}: wrong", case.word)?;
             wrong += 1;
         }
     }
-    for word in *illegal_words {
+    for word in manual.illegal_words {
         if manual.decode(*word).is_some() || !manual.decodes_alike(*word) {
             println!(rt; "{table:?} {word:08x}: legal")?;
             wrong += 1;
         }
     }
-    let legal = cases.len();
-    let illegal = illegal_words.len();
+    let legal = manual.cases.len();
+    let illegal = manual.illegal_words.len();
     println!(rt; "{table:?}: {legal} worked cases, {illegal} illegal words, {wrong} wrong")?;
     Ok(wrong.0)
 }

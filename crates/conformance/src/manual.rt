@@ -3,6 +3,7 @@
 //! the words for an answer, that is the mnemonics, the names of the sets and the record of an instruction.
 
 use crate::cases::{self, Case};
+use crate::subfield::Subfield;
 use codec::{Instruction, Mnemonic, Table};
 
 /// An instruction set as its manual has it, with words whose meaning was worked out by hand.
@@ -80,47 +81,43 @@ pub static CARDINAL: Manual = Manual {
     illegal_words: cases::ILLEGAL_IN_CARDINAL,
 };
 
-/// Bit `i` of a word, the most significant one first.
-fn bit(word: u32, i: usize) -> u32 {
-    (word >> (31 - i % 32)) % 2
-}
-
 impl Manual {
     /// What `word` says in this set, or `None` where it is illegal. A field that its pattern lacks is zero.
     pub fn decode(&self, word: u32) -> Option<Instruction> {
+        let word = Subfield::from(word);
         self.rows
             .iter()
-            .find(|row| row.fits(word))
-            .map(|row| row.read(word))
+            .find(|row| row.fits(&word))
+            .map(|row| row.read(&word))
             .filter(is_allowed)
     }
 }
 
 impl Row {
     /// Whether each fixed bit of the pattern is that of `word`.
-    fn fits(&self, word: u32) -> bool {
-        self.0.iter().enumerate().all(|(i, letter)| match letter {
-            b'0' => bit(word, i) == 0,
-            b'1' => bit(word, i) == 1,
+    fn fits(&self, word: &Subfield) -> bool {
+        self.0.iter().zip(0..32).all(|(letter, i)| match letter {
+            b'0' => !word.bit(i),
+            b'1' => word.bit(i),
             _ => true,
         })
     }
 
     /// The number whose bits stand under `letter`; zero where there are none.
-    fn number(&self, word: u32, letter: u8) -> u32 {
+    fn number(&self, word: &Subfield, letter: u8) -> u32 {
         self.0
             .iter()
-            .enumerate()
-            .filter(|(_, place)| **place == letter)
-            .fold(0, |number, (i, _)| number << 1 | bit(word, i))
+            .zip(0..32)
+            .filter(|(place, _)| **place == letter)
+            .fold(0, |number, (_, i)| number << 1 | u32::from(word.bit(i)))
     }
 
     /// A number of at most five bits.
-    fn small(&self, word: u32, letter: u8) -> u8 {
+    fn small(&self, word: &Subfield, letter: u8) -> u8 {
         (self.number(word, letter) % 32) as u8
     }
 
-    fn read(&self, word: u32) -> Instruction {
+    fn read(&self, word: &Subfield) -> Instruction {
         Instruction {
             mnemonic: self.1,
             rd: self.small(word, b'd'),

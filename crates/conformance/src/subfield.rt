@@ -37,6 +37,13 @@ pub struct Division {
     pub remainder: Subfield,
 }
 
+/// The bits of an instruction word.
+impl From<u32> for Subfield {
+    fn from(word: u32) -> Subfield {
+        Subfield::read(u64::from(word), 32, 32)
+    }
+}
+
 impl Subfield {
     fn zero(width: u32) -> Subfield {
         Subfield { width, bits: 0 }
@@ -81,8 +88,9 @@ impl Subfield {
 
     /// The same number at twice the width.
     fn widened(&self) -> Subfield {
-        let Subfield { width, .. } = *self;
-        Subfield::from_fn(width.wrapping_mul(2), |i| i >= width && self.bit(i - width))
+        Subfield::from_fn(self.width.wrapping_mul(2), |i| {
+            i >= self.width && self.bit(i - self.width)
+        })
     }
 
     fn inverted(&self) -> Subfield {
