@@ -23,18 +23,6 @@ impl Manual {
         }
     }
 
-    /// Whether both decoders read the word alike.
-    pub fn decodes_alike(&self, word: u32) -> bool {
-        self.table.decode(word) == self.decode(word)
-    }
-
-    /// Whether a legal word comes back from its instruction.
-    fn encodes_back(&self, word: u32) -> bool {
-        self.table
-            .decode(word)
-            .is_none_or(|instruction| self.table.encode(&instruction) == Ok(word))
-    }
-
     /// Whether a record that may have no word is answered rightly: by a word that says just that, or by refusal 11.
     pub fn encodes_rightly(&self, instruction: &Instruction) -> bool {
         match self.table.encode(instruction) {
@@ -49,25 +37,14 @@ impl Manual {
         merge(self.operation(word).mask, result, before.d)
     }
 
-    /// Whether both leave the same in rD.
-    fn works_alike(&self, word: u32, before: &Registers) -> bool {
-        let new = self
-            .decode(word)
-            .map_or(before.d, |found| execute(&found, before));
-        self.written(word, before) == new
-    }
-
-    /// Whether the word asks for what its pattern says, and an illegal one for what VNOP asks for.
-    fn asks_alike(&self, word: u32) -> bool {
-        self.operation(word) == asked(&self.decode(word).unwrap_or(NOP))
-    }
-
-    /// Whether all answers on a word are alike.
+    /// Whether all answers on a word are what its pattern says: its instruction, what it asks for (where it is illegal,
+    /// what VNOP asks for), what it leaves in rD, and that its instruction is encoded back.
     pub fn answers_alike(&self, word: u32, before: &Registers) -> bool {
-        self.decodes_alike(word)
-            && self.asks_alike(word)
-            && self.works_alike(word, before)
-            && self.encodes_back(word)
+        let found = self.decode(word);
+        self.table.decode(word) == found
+            && self.operation(word) == asked(&found.unwrap_or(NOP))
+            && self.written(word, before) == found.map_or(before.d, |i| execute(&i, before))
+            && found.is_none_or(|i| self.table.encode(&i) == Ok(word))
     }
 }
 

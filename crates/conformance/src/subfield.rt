@@ -40,7 +40,10 @@ pub struct Division {
 /// The bits of an instruction word.
 impl From<u32> for Subfield {
     fn from(word: u32) -> Subfield {
-        Subfield::read(u64::from(word), 32, 32)
+        Subfield {
+            width: 32,
+            bits: u64::from(word) << 32,
+        }
     }
 }
 
