@@ -1,4 +1,4 @@
-//! The calculations of both sets, bit by bit and subfield by subfield.
+//! The calculations of both sets, bit by bit and subfield by subfield, with no code of those that they are compared with.
 ghost use Rattle.std.specs.Prelude.{◌<◌};
 
 use crate::subfield::{Subfield, bit, gathered};

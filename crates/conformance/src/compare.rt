@@ -1,4 +1,5 @@
-//! What the instruction sets answer, beside what the manual's patterns say.
+//! What the instruction sets answer, beside what the manual's patterns say. What is worked out here from a pattern shares
+//! with the instruction sets the types of the answers, and no code.
 
 use crate::bits::{Registers, execute, mask};
 use crate::manual::Manual;

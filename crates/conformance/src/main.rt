@@ -48,7 +48,7 @@ fn main(rt: HostRuntime) -> anyhow::Result<()> {
 }
 
 /// Holds banks of several sizes, and trials over them, against a bank that is written another way.
-fn try_banks(rt: &HostRuntime) -> anyhow::Result<u32> {
+fn try_banks(rt: &(impl Print + AllocGlobal)) -> anyhow::Result<u32> {
     let mut numbers = Generator::new(2);
     let mut differences = Saturating(misplace_token());
     println!(rt; "a token for the wrong trial bank: {differences} differences")?;

@@ -7,6 +7,7 @@ use std::fmt;
 #[derive(Clone, Copy)]
 struct Text(Instruction);
 
+// A table, and not what Debug prints: a kernel's author reads the manual's names, whatever the variants are called.
 fn name(mnemonic: Mnemonic) -> &'static str {
     match mnemonic {
         Mnemonic::Vand => "vand",
@@ -38,6 +39,7 @@ fn name(mnemonic: Mnemonic) -> &'static str {
     }
 }
 
+// Two functions: a type with Display for each letter would hold the same match inside an impl.
 fn bytes_letter(ppp: u8) -> char {
     match ppp {
         0 => 'a',
