@@ -4,6 +4,7 @@ ghost use Rattle.std.specs.Prelude.{◌<◌};
 use crate::bits::Registers;
 use bank::End;
 use codec::{Instruction, NOP, Table};
+use std::array;
 
 /// A generator of pseudo random numbers (splitmix64): one seed always gives the same numbers.
 #[derive(Clone, Copy)]
@@ -12,7 +13,7 @@ pub struct Generator {
 }
 
 /// The bytes at which carries and signs change.
-const EDGES: [u64; 4] = [0x00, 0x7f, 0x80, 0xff];
+const EDGES: [u8; 4] = [0x00, 0x7f, 0x80, 0xff];
 
 impl Generator {
     pub fn new(seed: u64) -> Generator {
@@ -153,10 +154,7 @@ impl Generator {
     }
 
     fn edge_bytes(&mut self) -> u64 {
-        (0..8).fold(
-            0,
-            |contents, _| contents << 8 | EDGES[self.below(4) as usize],
-        )
+        u64::from_be_bytes(array::from_fn(|_| EDGES[self.below(4) as usize]))
     }
 
     /// A number below 16 in each subfield of one of the widths.

@@ -73,8 +73,9 @@ impl Subfield {
         })
     }
 
+    /// Bit `i`; past the last one it is clear.
     pub fn bit(&self, i: u32) -> bool {
-        bit(self.bits, i)
+        i < self.width && bit(self.bits, i)
     }
 
     fn set(&mut self, i: u32, on: bool) {
@@ -133,10 +134,7 @@ impl Subfield {
     }
 
     pub fn shifted_left(&self, by: u32) -> Subfield {
-        Subfield::from_fn(self.width, |i| {
-            let from = i.saturating_add(by);
-            from < self.width && self.bit(from)
-        })
+        Subfield::from_fn(self.width, |i| self.bit(i.saturating_add(by)))
     }
 
     /// The bits moved to the right, with `fill` in the places that they leave.
