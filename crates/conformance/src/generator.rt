@@ -20,6 +20,7 @@ impl Generator {
         Generator { state: seed }
     }
 
+    // Not that of Iterator: the numbers have no end, and each use would take an Option apart.
     pub fn next(&mut self) -> u64 {
         self.state = self.state.wrapping_add(0x9e37_79b9_7f4a_7c15);
         let x = self.state;

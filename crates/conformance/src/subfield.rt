@@ -114,6 +114,7 @@ impl Subfield {
 
     /// The sum by a carry that goes from the last bit to the first. The last carry is lost.
     fn with_carry(&self, other: &Subfield, carry_in: bool) -> Subfield {
+        // A loop: a fold would hand on the sum and the carry in a pair.
         let mut sum = Subfield::zero(self.width);
         let mut carry = carry_in;
         for i in (0..self.width).rev() {
@@ -180,6 +181,7 @@ impl Subfield {
                 remainder,
             };
         }
+        // A loop: a fold would hand on the quotient and the remainder in a pair.
         for i in 0..self.width {
             let carried_out = remainder.bit(0);
             remainder = remainder.shifted_left(1);
