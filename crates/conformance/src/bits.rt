@@ -1,41 +1,35 @@
-//! The calculations of both sets, bit by bit and subfield by subfield.
+//! The calculations of both sets, bit by bit and subfield by subfield, with no code of those that they are compared with.
+ghost use Rattle.std.specs.Prelude.{◌<◌};
 
-use crate::manual::{Found, Name};
-use crate::subfield::{Subfield, bit, with_bit};
+use crate::subfield::{Subfield, bit, gathered};
+use codec::{Instruction, Mnemonic};
 
-/// The new contents of rD, from the contents of rA and rB and the old ones of rD. An instruction
-/// that calculates nothing leaves them as they are.
-pub fn execute(found: &Found, a: u64, b: u64, old: u64) -> u64 {
-    match result(found, a, b) {
-        Some(new) => written(old, new, found.ppp),
-        None => old,
-    }
+/// What rA, rB and rD hold before a word.
+#[derive(Clone, Copy)]
+pub struct Registers {
+    pub a: u64,
+    pub b: u64,
+    pub d: u64,
 }
 
-/// The whole result, before PPP chooses from it.
-fn result(found: &Found, a: u64, b: u64) -> Option<u64> {
-    match found.kind {
-        Name::Vld | Name::Vsd | Name::Vbez | Name::Vbnez | Name::Vnop => None,
-        Name::Vand | Name::Vor | Name::Vxor | Name::Vnot | Name::Vmov => {
-            Some(on_bits(found.kind, a, b))
-        }
-        Name::Vmuleu => Some(products(found.ww, a, b, false)),
-        Name::Vmulou => Some(products(found.ww, a, b, true)),
-        Name::Vsqeu => Some(products(found.ww, a, a, false)),
-        Name::Vsqou => Some(products(found.ww, a, a, true)),
-        _ => Some(on_subfields(found, a, b)),
-    }
+/// What rD holds after an instruction. One that calculates nothing leaves it as it is.
+pub fn execute(i: &Instruction, before: &Registers) -> u64 {
+    let Some(new) = result(i, before) else {
+        return before.d;
+    };
+    gathered(64, |place| {
+        let chosen = if is_written(place / 8, i.ppp) {
+            new
+        } else {
+            before.d
+        };
+        bit(chosen, place)
+    })
 }
 
-/// `old` with the bytes of `new` that `ppp` names.
-fn written(old: u64, new: u64, ppp: u8) -> u64 {
-    let mut register = old;
-    for i in 0..64 {
-        if is_written(i / 8, ppp) {
-            register = with_bit(register, i, bit(new, i));
-        }
-    }
-    register
+/// The bytes that `ppp` names. The most significant bit stands for byte 0.
+pub fn mask(ppp: u8) -> u8 {
+    (0..8).fold(0, |mask, byte| mask << 1 | u8::from(is_written(byte, ppp)))
 }
 
 /// Whether `ppp` names this byte. Byte 0 is the most significant.
@@ -50,82 +44,89 @@ fn is_written(byte: u32, ppp: u8) -> bool {
     }
 }
 
-fn on_bits(kind: Name, a: u64, b: u64) -> u64 {
-    let mut register = 0;
-    for i in 0..64 {
-        register = with_bit(register, i, on_bit(kind, bit(a, i), bit(b, i)));
-    }
-    register
+/// The whole result, before PPP chooses from it.
+fn result(i: &Instruction, before: &Registers) -> Option<u64> {
+    let size = 3 + u32::from(i.ww % 4);
+    let amount = amount(i);
+    let new = match i.mnemonic {
+        Mnemonic::Vld | Mnemonic::Vsd | Mnemonic::Vbez | Mnemonic::Vbnez | Mnemonic::Vnop => {
+            return None;
+        }
+        Mnemonic::Vand => before.on_bits(|p, q| p && q),
+        Mnemonic::Vor => before.on_bits(|p, q| p || q),
+        Mnemonic::Vxor => before.on_bits(|p, q| p != q),
+        Mnemonic::Vnot => before.on_bits(|p, _| !p),
+        Mnemonic::Vmov => before.on_bits(|p, _| p),
+        Mnemonic::Vadd => before.on_subfields(size, Subfield::plus),
+        Mnemonic::Vsub => before.on_subfields(size, Subfield::minus),
+        Mnemonic::Vmuleu => before.on_subfields(size + 1, even_product),
+        Mnemonic::Vmulou => before.on_subfields(size + 1, odd_product),
+        Mnemonic::Vsqeu => before.on_subfields(size + 1, |x, _| even_product(x, x)),
+        Mnemonic::Vsqou => before.on_subfields(size + 1, |x, _| odd_product(x, x)),
+        Mnemonic::Vrtth => before.on_subfields(size, |x, _| x.halves_swapped()),
+        Mnemonic::Vsll => before.on_subfields(size, |x, y| x.shifted_left(y.low_bits(size))),
+        Mnemonic::Vsrl => before.on_subfields(
+            size,
+            |x, y| x.shifted_right(y.low_bits(size), false),
+        ),
+        Mnemonic::Vsra => before.on_subfields(
+            size,
+            |x, y| x.shifted_right(y.low_bits(size), x.bit(0)),
+        ),
+        Mnemonic::Vslli => before.on_subfields(size, |x, _| x.shifted_left(amount)),
+        Mnemonic::Vsrli => before.on_subfields(size, |x, _| x.shifted_right(amount, false)),
+        Mnemonic::Vsrai => before.on_subfields(size, |x, _| x.shifted_right(amount, x.bit(0))),
+        Mnemonic::Vdiv => before.on_subfields(size, |x, y| x.divided(y).quotient),
+        Mnemonic::Vmod => before.on_subfields(size, |x, y| x.divided(y).remainder),
+        Mnemonic::Vsqrt => before.on_subfields(size, |x, _| x.root()),
+    };
+    Some(new)
 }
 
-fn on_bit(kind: Name, p: bool, q: bool) -> bool {
-    match kind {
-        Name::Vand => p && q,
-        Name::Vor => p || q,
-        Name::Vxor => p != q,
-        Name::Vnot => !p,
-        _ => p,
+impl Registers {
+    /// What a function makes of the bits of rA and rB at each place.
+    fn on_bits<F: Fn(bool, bool) -> bool>(&self, on_bit: F) -> u64
+        requires { F.IsAlwaysCallable on_bit }
+    {
+        gathered(64, |i| on_bit(bit(self.a, i), bit(self.b, i)))
+    }
+
+    /// What a function makes of the subfields of rA and rB, each result in their place. A subfield has 2 to the power of
+    /// `size` bits.
+    fn on_subfields<F: Fn(&Subfield, &Subfield) -> Subfield>(
+        &self,
+        size: u32,
+        on_subfield: F,
+    ) -> u64
+        requires fits { size < 32 }
+        requires callable { F.IsAlwaysCallable on_subfield }
+    {
+        let width = 1 << size;
+        (0..64u32 >> size).fold(0, |register, k| {
+            let start = k << size;
+            let x = Subfield::read(self.a, start, width);
+            let y = Subfield::read(self.b, start, width);
+            on_subfield(&x, &y).write(register, start)
+        })
     }
 }
 
-/// The result of each subfield in its place.
-fn on_subfields(found: &Found, a: u64, b: u64) -> u64 {
-    let size = 3 + u32::from(found.ww % 4);
-    let width = 1 << size;
-    let mut register = 0;
-    for k in 0..64u32 >> size {
-        let start = k << size;
-        let x = Subfield::read(a, start, width);
-        let y = Subfield::read(b, start, width);
-        register = on_subfield(found, &x, &y).write(register, start);
-    }
-    register
+/// The product of the even subfields of two pairs.
+fn even_product(x: &Subfield, y: &Subfield) -> Subfield {
+    x.first_half().times(&y.first_half())
 }
 
-fn on_subfield(found: &Found, x: &Subfield, y: &Subfield) -> Subfield {
-    match found.kind {
-        Name::Vadd => x.plus(y),
-        Name::Vsub => x.minus(y),
-        Name::Vrtth => x.halves_swapped(),
-        Name::Vsll => x.shifted_left(by_register(found, y)),
-        Name::Vsrl => x.shifted_right(by_register(found, y), false),
-        Name::Vsra => x.shifted_right(by_register(found, y), x.bit(0)),
-        Name::Vslli => x.shifted_left(by_amount(found)),
-        Name::Vsrli => x.shifted_right(by_amount(found), false),
-        Name::Vsrai => x.shifted_right(by_amount(found), x.bit(0)),
-        Name::Vdiv => x.divided(y).quotient,
-        Name::Vmod => x.divided(y).remainder,
-        Name::Vsqrt => x.root(),
-        _ => *x,
-    }
-}
-
-/// How far a shift by a register goes: the low 3, 4, 5 or 6 bits of its subfield.
-fn by_register(found: &Found, y: &Subfield) -> u32 {
-    y.low_bits(3 + u32::from(found.ww % 4))
+/// The product of the odd subfields of two pairs.
+fn odd_product(x: &Subfield, y: &Subfield) -> Subfield {
+    x.second_half().times(&y.second_half())
 }
 
 /// How far a shift by an amount goes: the low 3, 4, 5 or, once more, 5 bits of it.
-fn by_amount(found: &Found) -> u32 {
-    let amount = u32::from(found.amount);
-    match found.ww {
+fn amount(i: &Instruction) -> u32 {
+    let amount = u32::from(i.amount);
+    match i.ww {
         0 => amount % 8,
         1 => amount % 16,
         _ => amount % 32,
     }
-}
-
-/// The products of the even or the odd subfields, each in the place of its pair.
-fn products(ww: u8, a: u64, b: u64, odd: bool) -> u64 {
-    let size = 3 + u32::from(ww % 4);
-    let width = 1 << size;
-    let skipped = if odd { width } else { 0 };
-    let mut register = 0;
-    for pair in 0..32u32 >> size {
-        let start = pair << (size + 1);
-        let x = Subfield::read(a, start.wrapping_add(skipped), width);
-        let y = Subfield::read(b, start.wrapping_add(skipped), width);
-        register = x.times(&y).write(register, start);
-    }
-    register
 }

@@ -1,6 +1,6 @@
 //! Words whose meaning was worked out by hand.
 
-use crate::manual::Set;
+use crate::bits::Registers;
 
 /// A legal word, the contents of rA and rB, and what rD holds after it. Before it rD holds `OLD`.
 #[derive(Clone, Copy)]
@@ -13,7 +13,7 @@ pub struct Case {
 
 pub const OLD: u64 = 0xAAAAAAAAAAAAAAAA;
 
-static GOLD: [Case; 16] = [
+pub const GOLD: &[Case] = &[
     // Sums and differences stay in their subfields.
     Case {
         word: 0xA8611006,
@@ -118,7 +118,7 @@ static GOLD: [Case; 16] = [
     },
 ];
 
-static CARDINAL: [Case; 6] = [
+pub const CARDINAL: &[Case] = &[
     // The number of a square in Gold is that of a shift here.
     Case {
         word: 0xA861100A,
@@ -161,23 +161,18 @@ static CARDINAL: [Case; 6] = [
 ];
 
 /// A PPP of 5, a product of width 64, a square with an rB, and fields that should be zero.
-static ILLEGAL_IN_GOLD: [u32; 5] = [0xA8611546, 0xA86110C8, 0xA861100A, 0x80610010, 0xF0000001];
+pub const ILLEGAL_IN_GOLD: &[u32] = &[0xA8611546, 0xA86110C8, 0xA861100A, 0x80610010, 0xF0000001];
 
 /// A PPP, a root with an rB, and a function past the last one.
-static ILLEGAL_IN_CARDINAL: [u32; 3] = [0xA8611106, 0xA8611012, 0xA8610013];
+pub const ILLEGAL_IN_CARDINAL: &[u32] = &[0xA8611106, 0xA8611012, 0xA8610013];
 
-impl Set {
-    pub fn cases(&self) -> &'static [Case] {
-        match self {
-            Set::Gold => &GOLD,
-            Set::Cardinal => &CARDINAL,
-        }
-    }
-
-    pub fn illegal_words(&self) -> &'static [u32] {
-        match self {
-            Set::Gold => &ILLEGAL_IN_GOLD,
-            Set::Cardinal => &ILLEGAL_IN_CARDINAL,
+impl Case {
+    /// The registers before the word.
+    pub fn registers(&self) -> Registers {
+        Registers {
+            a: self.a,
+            b: self.b,
+            d: OLD,
         }
     }
 }

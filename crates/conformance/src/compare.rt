@@ -1,133 +1,99 @@
-//! What the instruction sets answer, beside what the manual's patterns say.
+//! What the instruction sets answer, beside what the manual's patterns say. What is worked out here from a pattern shares
+//! with the instruction sets the types of the answers, and no code.
 
-use crate::bits;
-use crate::manual::{Found, Name, Set};
-use base::{Fault, merge};
-use codec::{Class, Instruction, Table};
+use crate::bits::{Registers, execute, mask};
+use crate::manual::Manual;
+use base::{Fault, Width, merge};
+use codec::{Class, Instruction, Mnemonic, NOP};
 use isa::{InstructionSet, Operation};
 
-impl Set {
-    fn table(self) -> Table {
-        match self {
-            Set::Gold => Table::Gold,
-            Set::Cardinal => Table::Cardinal,
-        }
-    }
-
-    fn operation(self, word: u32) -> Operation {
-        self.table().operation(word)
-    }
-
-    fn result(self, word: u32, a: u64, b: u64) -> u64 {
-        self.table().result(word, a, b)
-    }
-
-    /// Whether both decoders read the word alike.
-    pub fn decodes_alike(self, word: u32) -> bool {
-        match (self.table().decode(word), self.decode(word)) {
-            (Some(instruction), Some(found)) => is_found(&instruction, &found),
-            (None, None) => true,
-            _ => false,
-        }
-    }
-
-    /// Whether a legal word comes back from its instruction.
-    pub fn encodes_back(self, word: u32) -> bool {
-        let Some(instruction) = self.table().decode(word) else {
-            return true;
-        };
-        match self.table().encode(&instruction) {
-            Ok(back) => back == word,
-            Err(_) => false,
-        }
-    }
-
+impl Manual {
     /// Whether a record that may have no word is answered rightly: by a word that says just that, or by refusal 11.
-    pub fn encodes_rightly(self, instruction: &Instruction) -> bool {
-        match self.table().encode(instruction) {
-            Ok(word) => match self.decode(word) {
-                Some(found) => is_found(instruction, &found),
-                None => false,
-            },
+    pub fn encodes_rightly(&self, instruction: &Instruction) -> bool {
+        match self.table.encode(instruction) {
+            Ok(word) => self.decode(word) == Some(*instruction),
             Err(fault) => fault == Fault::NoSuchInstruction && fault.number() == 11,
         }
     }
 
     /// The contents of rD after the word, by the instruction set.
-    pub fn written(self, word: u32, a: u64, b: u64, old: u64) -> u64 {
-        merge(self.operation(word).mask, self.result(word, a, b), old)
+    pub fn written(&self, word: u32, before: &Registers) -> u64 {
+        let result = self.table.result(word, before.a, before.b);
+        merge(self.table.operation(word).mask, result, before.d)
     }
 
-    /// Whether both leave the same in rD.
-    pub fn works_alike(self, word: u32, a: u64, b: u64, old: u64) -> bool {
-        let new = match self.decode(word) {
-            Some(found) => bits::execute(&found, a, b, old),
-            None => old,
-        };
-        self.written(word, a, b, old) == new
-    }
-
-    /// Whether the word asks for what its pattern says: class, registers, address and reach.
-    pub fn asks_alike(self, word: u32) -> bool {
-        let asked = self.operation(word);
-        let Some(found) = self.decode(word) else {
-            return asked.class == Class::Nothing && asked.mask == 0 && asked.reach.bits() == 8;
-        };
-        let calculates = class(found.kind) == Class::Calculate;
-        let reads_two = calculates && reads_two(found.kind);
-        asked.class == class(found.kind)
-            && asked.rd == found.rd
-            && asked.ra == calculates.then_some(found.ra)
-            && asked.rb == reads_two.then_some(found.rb)
-            && asked.address == found.address
-            && asked.reach.bits() == reach(&found)
+    /// Whether all answers on a word are what its pattern says: its instruction, what it asks for (where it is illegal,
+    /// what VNOP asks for), what it leaves in rD, and that its instruction is encoded back.
+    pub fn answers_alike(&self, word: u32, before: &Registers) -> bool {
+        let found = self.decode(word);
+        self.table.decode(word) == found
+            && self.table.operation(word) == asked(&found.unwrap_or(NOP))
+            && self.written(word, before) == found.map_or(before.d, |i| execute(&i, before))
+            && found.is_none_or(|i| self.table.encode(&i) == Ok(word))
     }
 }
 
-/// Both lists of names are in the same order.
-fn is_found(instruction: &Instruction, found: &Found) -> bool {
-    instruction.mnemonic as u8 == found.kind as u8
-        && instruction.rd == found.rd
-        && instruction.ra == found.ra
-        && instruction.rb == found.rb
-        && instruction.amount == found.amount
-        && instruction.ppp == found.ppp
-        && instruction.ww == found.ww
-        && instruction.address == found.address
+/// What an instruction asks for.
+fn asked(i: &Instruction) -> Operation {
+    let class = class(i.mnemonic);
+    let calculates = class == Class::Calculate;
+    Operation {
+        class,
+        rd: i.rd,
+        ra: calculates.then_some(i.ra),
+        rb: (calculates && reads_two(i.mnemonic)).then_some(i.rb),
+        address: i.address,
+        mask: if calculates { mask(i.ppp) } else { 0 },
+        reach: reach(i),
+    }
 }
 
-fn class(name: Name) -> Class {
-    match name {
-        Name::Vld => Class::Load,
-        Name::Vsd => Class::Store,
-        Name::Vbez => Class::BranchZero,
-        Name::Vbnez => Class::BranchNotZero,
-        Name::Vnop => Class::Nothing,
+fn class(mnemonic: Mnemonic) -> Class {
+    match mnemonic {
+        Mnemonic::Vld => Class::Load,
+        Mnemonic::Vsd => Class::Store,
+        Mnemonic::Vbez => Class::BranchZero,
+        Mnemonic::Vbnez => Class::BranchNotZero,
+        Mnemonic::Vnop => Class::Nothing,
         _ => Class::Calculate,
     }
 }
 
-fn reads_two(name: Name) -> bool {
+fn reads_two(mnemonic: Mnemonic) -> bool {
     !matches!(
-        name,
-        Name::Vnot
-            | Name::Vmov
-            | Name::Vsqeu
-            | Name::Vsqou
-            | Name::Vrtth
-            | Name::Vslli
-            | Name::Vsrli
-            | Name::Vsrai
-            | Name::Vsqrt
+        mnemonic,
+        Mnemonic::Vnot
+            | Mnemonic::Vmov
+            | Mnemonic::Vsqeu
+            | Mnemonic::Vsqou
+            | Mnemonic::Vrtth
+            | Mnemonic::Vslli
+            | Mnemonic::Vsrli
+            | Mnemonic::Vsrai
+            | Mnemonic::Vsqrt
     )
 }
 
-fn reach(found: &Found) -> u32 {
-    let width = 8u32 << (found.ww % 4);
-    match found.kind {
-        Name::Vand | Name::Vor | Name::Vxor | Name::Vnot | Name::Vmov => 8,
-        Name::Vmuleu | Name::Vmulou | Name::Vsqeu | Name::Vsqou => width.wrapping_mul(2),
-        Name::Vld | Name::Vsd | Name::Vbez | Name::Vbnez | Name::Vnop => 8,
-        _ => width,
+fn width(ww: u8) -> Width {
+    match ww {
+        0 => Width::W8,
+        1 => Width::W16,
+        2 => Width::W32,
+        _ => Width::W64,
+    }
+}
+
+fn reach(i: &Instruction) -> Width {
+    match i.mnemonic {
+        Mnemonic::Vand | Mnemonic::Vor | Mnemonic::Vxor | Mnemonic::Vnot | Mnemonic::Vmov => {
+            Width::W8
+        }
+        Mnemonic::Vmuleu | Mnemonic::Vmulou | Mnemonic::Vsqeu | Mnemonic::Vsqou => {
+            width(i.ww.saturating_add(1))
+        }
+        Mnemonic::Vld | Mnemonic::Vsd | Mnemonic::Vbez | Mnemonic::Vbnez | Mnemonic::Vnop => {
+            Width::W8
+        }
+        _ => width(i.ww),
     }
 }

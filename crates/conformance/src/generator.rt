@@ -1,8 +1,10 @@
 //! Test words and register contents from a fixed seed.
 ghost use Rattle.std.specs.Prelude.{◌<◌};
 
+use crate::bits::Registers;
 use bank::End;
 use codec::{Instruction, NOP, Table};
+use std::array;
 
 /// A generator of pseudo random numbers (splitmix64): one seed always gives the same numbers.
 #[derive(Clone, Copy)]
@@ -11,13 +13,14 @@ pub struct Generator {
 }
 
 /// The bytes at which carries and signs change.
-const EDGES: [u64; 4] = [0x00, 0x7f, 0x80, 0xff];
+const EDGES: [u8; 4] = [0x00, 0x7f, 0x80, 0xff];
 
 impl Generator {
     pub fn new(seed: u64) -> Generator {
         Generator { state: seed }
     }
 
+    // Not that of Iterator: the numbers have no end, and each use would take an Option apart.
     pub fn next(&mut self) -> u64 {
         self.state = self.state.wrapping_add(0x9e37_79b9_7f4a_7c15);
         let x = self.state;
@@ -140,7 +143,7 @@ impl Generator {
     }
 
     /// The contents of a register.
-    pub fn contents(&mut self) -> u64 {
+    fn contents(&mut self) -> u64 {
         match self.below(8) {
             0 => 0,
             1 => u64::MAX,
@@ -152,20 +155,23 @@ impl Generator {
     }
 
     fn edge_bytes(&mut self) -> u64 {
-        let mut contents = 0;
-        for _ in 0..8 {
-            contents = contents << 8 | EDGES[self.below(4) as usize];
-        }
-        contents
+        u64::from_be_bytes(array::from_fn(|_| EDGES[self.below(4) as usize]))
     }
 
     /// A number below 16 in each subfield of one of the widths.
     fn small_numbers(&mut self) -> u64 {
         let size = 3 + self.below(4);
-        let mut contents = 0;
-        for k in 0..64u32 >> size {
-            contents |= u64::from(self.below(16)) << ((k << size) % 64);
+        (0..64u32 >> size).fold(0, |contents, k| {
+            contents | u64::from(self.below(16)) << ((k << size) % 64)
+        })
+    }
+
+    /// The contents of the registers of a word.
+    pub fn registers(&mut self) -> Registers {
+        Registers {
+            a: self.contents(),
+            b: self.contents(),
+            d: self.contents(),
         }
-        contents
     }
 }

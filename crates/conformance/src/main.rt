@@ -13,11 +13,13 @@ mod subfield;
 
 use anyhow::anyhow;
 use banks::SURVEY_CALLS;
-use cases::{Case, OLD};
+use cases::Case;
 use generator::Generator;
 use isa::marked_cases;
 use lent::{misplace_token, survey_bytes, survey_words};
-use manual::Set;
+use manual::{CARDINAL, GOLD, Manual};
+use std::alloc::AllocError;
+use std::num::Saturating;
 use std::{env, io};
 
 /// How many words are generated for each set.
@@ -28,12 +30,12 @@ const TOLD: u32 = 20;
 
 fn main(rt: HostRuntime) -> anyhow::Result<()> {
     println!(rt; "{} marked cases are part of the proof", marked_cases())?;
-    let mut differences = 0u32;
-    for set in [Set::Gold, Set::Cardinal] {
-        differences = differences.saturating_add(try_cases(&rt, set)?);
-        differences = differences.saturating_add(survey(&rt, set)?);
+    let mut differences = Saturating(0);
+    for manual in [&GOLD, &CARDINAL] {
+        differences += try_cases(&rt, manual)?;
+        differences += survey(&rt, manual)?;
     }
-    if differences > 0 {
+    if differences.0 > 0 {
         return Err(anyhow!("the instruction sets differ from their manuals"));
     }
     let asked = env::args(&rt).is_ok_and(|words| words
@@ -46,91 +48,95 @@ fn main(rt: HostRuntime) -> anyhow::Result<()> {
 }
 
 /// Holds banks of several sizes, and trials over them, against a bank that is written another way.
-fn try_banks(rt: &HostRuntime) -> anyhow::Result<u32> {
+fn try_banks(rt: &(impl Print + AllocGlobal)) -> anyhow::Result<u32> {
     let mut numbers = Generator::new(2);
-    let mut differences = misplace_token();
+    let mut differences = Saturating(misplace_token());
     println!(rt; "a token for the wrong trial bank: {differences} differences")?;
-    for count in [0, 1, 5, 1030, 65_540] {
-        let found = survey_words(rt.alloc(), count, &mut numbers)?;
+    differences += try_sizes(rt, "word", &[0, 1, 5, 1030, 65_540], |count| {
+        survey_words(rt.alloc(), count, &mut numbers)
+    })?;
+    differences += try_sizes(rt, "byte", &[0, 7, 8, 20, 8243, 524_300], |count| {
+        survey_bytes(rt.alloc(), count, &mut numbers)
+    })?;
+    Ok(differences.0)
+}
+
+/// Counts the differences that a survey finds at banks of these sizes.
+fn try_sizes<F: FnMut(usize) -> Result<u32, AllocError>>(
+    rt: &impl Print,
+    kind: &str,
+    counts: &[usize],
+    mut survey: F,
+) -> anyhow::Result<u32>
+    requires { F.IsAlwaysCallable survey }
+{
+    let mut differences = Saturating(0);
+    for count in counts {
+        let found = survey(*count)?;
         println!(rt;
-            "a word bank, {count} lent, and trials over it: {SURVEY_CALLS} calls, {found} differences"
+            "a {kind} bank, {count} lent, and trials over it: {SURVEY_CALLS} calls, {found} differences"
         )?;
-        differences = differences.saturating_add(found);
+        differences += found;
     }
-    for count in [0, 7, 8, 20, 8243, 524_300] {
-        let found = survey_bytes(rt.alloc(), count, &mut numbers)?;
-        println!(rt;
-            "a byte bank, {count} lent, and trials over it: {SURVEY_CALLS} calls, {found} differences"
-        )?;
-        differences = differences.saturating_add(found);
-    }
-    Ok(differences)
+    Ok(differences.0)
 }
 
 /// Counts the cases that come out wrong.
-fn try_cases(rt: &impl Print, set: Set) -> io::Result<u32> {
-    let mut wrong = 0u32;
-    for case in set.cases() {
-        if !is_right(set, case) {
-            let word = case.word;
-            println!(rt; "{set:?} {word:08x}: wrong")?;
-            wrong = wrong.saturating_add(1);
+fn try_cases(rt: &impl Print, manual: &Manual) -> io::Result<u32> {
+    let table = manual.table;
+    let mut wrong = Saturating(0);
+    for case in manual.cases {
+        if !is_right(manual, case) {
+            println!(rt; "{table:?} {:08x}: wrong", case.word)?;
+            wrong += 1;
         }
     }
-    for word in set.illegal_words() {
-        if set.decode(*word).is_some() || !set.decodes_alike(*word) {
-            println!(rt; "{set:?} {word:08x}: legal")?;
-            wrong = wrong.saturating_add(1);
+    for word in manual.illegal_words {
+        if manual.decode(*word).is_some() || table.decode(*word).is_some() {
+            println!(rt; "{table:?} {word:08x}: legal")?;
+            wrong += 1;
         }
     }
-    let legal = set.cases().len();
-    let illegal = set.illegal_words().len();
-    println!(rt; "{set:?}: {legal} worked cases, {illegal} illegal words, {wrong} wrong")?;
-    Ok(wrong)
+    let legal = manual.cases.len();
+    let illegal = manual.illegal_words.len();
+    println!(rt; "{table:?}: {legal} worked cases, {illegal} illegal words, {wrong} wrong")?;
+    Ok(wrong.0)
 }
 
-fn is_right(set: Set, case: &Case) -> bool {
-    let word = case.word;
-    set.written(word, case.a, case.b, OLD) == case.new
-        && set.works_alike(word, case.a, case.b, OLD)
-        && set.decode(word).is_some()
-        && set.decodes_alike(word)
-        && set.asks_alike(word)
-        && set.encodes_back(word)
+fn is_right(manual: &Manual, case: &Case) -> bool {
+    let before = case.registers();
+    manual.written(case.word, &before) == case.new
+        && manual.decode(case.word).is_some()
+        && manual.answers_alike(case.word, &before)
 }
 
 /// Whether all answers on one generated word, with contents and a damaged record, are alike.
-fn is_alike(set: Set, word: u32, numbers: &mut Generator) -> bool {
-    let a = numbers.contents();
-    let b = numbers.contents();
-    let old = numbers.contents();
-    set.decodes_alike(word)
-        && set.asks_alike(word)
-        && set.works_alike(word, a, b, old)
-        && set.encodes_back(word)
-        && set.encodes_rightly(&numbers.record())
+fn is_alike(manual: &Manual, word: u32, numbers: &mut Generator) -> bool {
+    let before = numbers.registers();
+    manual.answers_alike(word, &before) && manual.encodes_rightly(&numbers.record())
 }
 
 /// Counts the differences over generated words.
-fn survey(rt: &impl Print, set: Set) -> io::Result<u32> {
+fn survey(rt: &impl Print, manual: &Manual) -> io::Result<u32> {
+    let table = manual.table;
     let mut numbers = Generator::new(1);
-    let mut legal = 0u32;
-    let mut differences = 0u32;
+    let mut legal = Saturating(0);
+    let mut differences = Saturating(0);
     for _ in 0..WORDS {
         let word = numbers.word();
-        if set.decode(word).is_some() {
-            legal = legal.saturating_add(1);
+        if manual.decode(word).is_some() {
+            legal += 1;
         }
-        if !is_alike(set, word, &mut numbers) {
-            if differences < TOLD {
-                println!(rt; "{set:?} {word:08x}: a difference")?;
+        if !is_alike(manual, word, &mut numbers) {
+            if differences.0 < TOLD {
+                println!(rt; "{table:?} {word:08x}: a difference")?;
             }
-            differences = differences.saturating_add(1);
+            differences += 1;
         }
     }
-    let illegal = WORDS.saturating_sub(legal);
+    let illegal = WORDS.saturating_sub(legal.0);
     println!(rt;
-        "{set:?}: {WORDS} words, {legal} legal, {illegal} illegal, {differences} differences"
+        "{table:?}: {WORDS} words, {legal} legal, {illegal} illegal, {differences} differences"
     )?;
-    Ok(differences)
+    Ok(differences.0)
 }

@@ -1,169 +1,125 @@
 //! The instruction words of both sets as bit patterns, and a decoder that follows them bit by bit.
-//! It is slow and plain on purpose: it shares nothing with the decoder that it is compared with.
+//! It is slow and plain on purpose: it shares no code with the decoder that it is compared with, only
+//! the words for an answer, that is the mnemonics, the names of the sets and the record of an instruction.
 
-/// The mnemonics of both sets.
-#[derive(Clone, Copy)]
-pub enum Name {
-    Vand,
-    Vor,
-    Vxor,
-    Vnot,
-    Vmov,
-    Vadd,
-    Vsub,
-    Vmuleu,
-    Vmulou,
-    Vsqeu,
-    Vsqou,
-    Vrtth,
-    Vsll,
-    Vslli,
-    Vsrl,
-    Vsrli,
-    Vsra,
-    Vsrai,
-    Vdiv,
-    Vmod,
-    Vsqrt,
-    Vld,
-    Vsd,
-    Vbez,
-    Vbnez,
-    Vnop,
-}
+use crate::cases::{self, Case};
+use crate::subfield::Subfield;
+use codec::{Instruction, Mnemonic, Table};
 
-/// The two instruction sets.
-#[derive(Clone, Copy, Debug)]
-pub enum Set {
-    Gold,
-    Cardinal,
+/// An instruction set as its manual has it, with words whose meaning was worked out by hand.
+pub struct Manual {
+    pub table: Table,
+    rows: [Row; 23],
+    pub cases: &'static [Case],
+    pub illegal_words: &'static [u32],
 }
 
 /// The bit pattern of an instruction, the most significant bit first. `0` and `1` are fixed bits, and
 /// the letters are the bits of a field: `d` rD, `a` rA, `b` rB, `i` a shift amount, `p` PPP, `w` WW
 /// and `m` an address.
-pub struct Row(pub &'static [u8; 32], pub Name);
+struct Row([u8; 32], Mnemonic);
 
-/// What a word says. A field that its pattern lacks is zero.
-#[derive(Clone, Copy)]
-pub struct Found {
-    pub kind: Name,
-    pub rd: u8,
-    pub ra: u8,
-    pub rb: u8,
-    pub amount: u8,
-    pub ppp: u8,
-    pub ww: u8,
-    pub address: u16,
-}
+pub static GOLD: Manual = Manual {
+    table: Table::Gold,
+    rows: [
+        Row(*b"101010dddddaaaaabbbbbpppww000001", Mnemonic::Vand),
+        Row(*b"101010dddddaaaaabbbbbpppww000010", Mnemonic::Vor),
+        Row(*b"101010dddddaaaaabbbbbpppww000011", Mnemonic::Vxor),
+        Row(*b"101010dddddaaaaa00000pppww000100", Mnemonic::Vnot),
+        Row(*b"101010dddddaaaaa00000pppww000101", Mnemonic::Vmov),
+        Row(*b"101010dddddaaaaabbbbbpppww000110", Mnemonic::Vadd),
+        Row(*b"101010dddddaaaaabbbbbpppww000111", Mnemonic::Vsub),
+        Row(*b"101010dddddaaaaabbbbbpppww001000", Mnemonic::Vmuleu),
+        Row(*b"101010dddddaaaaabbbbbpppww001001", Mnemonic::Vmulou),
+        Row(*b"101010dddddaaaaa00000pppww001010", Mnemonic::Vsqeu),
+        Row(*b"101010dddddaaaaa00000pppww001011", Mnemonic::Vsqou),
+        Row(*b"101010dddddaaaaa00000pppww001100", Mnemonic::Vrtth),
+        Row(*b"101010dddddaaaaabbbbbpppww001101", Mnemonic::Vsll),
+        Row(*b"101010dddddaaaaaiiiiipppww001110", Mnemonic::Vslli),
+        Row(*b"101010dddddaaaaabbbbbpppww001111", Mnemonic::Vsrl),
+        Row(*b"101010dddddaaaaaiiiiipppww010000", Mnemonic::Vsrli),
+        Row(*b"101010dddddaaaaabbbbbpppww010001", Mnemonic::Vsra),
+        Row(*b"101010dddddaaaaaiiiiipppww010010", Mnemonic::Vsrai),
+        Row(*b"100000ddddd00000mmmmmmmmmmmmmmmm", Mnemonic::Vld),
+        Row(*b"100001ddddd00000mmmmmmmmmmmmmmmm", Mnemonic::Vsd),
+        Row(*b"100010ddddd00000mmmmmmmmmmmmmmmm", Mnemonic::Vbez),
+        Row(*b"100011ddddd00000mmmmmmmmmmmmmmmm", Mnemonic::Vbnez),
+        Row(*b"11110000000000000000000000000000", Mnemonic::Vnop),
+    ],
+    cases: cases::GOLD,
+    illegal_words: cases::ILLEGAL_IN_GOLD,
+};
 
-static GOLD: [Row; 23] = [
-    Row(b"101010dddddaaaaabbbbbpppww000001", Name::Vand),
-    Row(b"101010dddddaaaaabbbbbpppww000010", Name::Vor),
-    Row(b"101010dddddaaaaabbbbbpppww000011", Name::Vxor),
-    Row(b"101010dddddaaaaa00000pppww000100", Name::Vnot),
-    Row(b"101010dddddaaaaa00000pppww000101", Name::Vmov),
-    Row(b"101010dddddaaaaabbbbbpppww000110", Name::Vadd),
-    Row(b"101010dddddaaaaabbbbbpppww000111", Name::Vsub),
-    Row(b"101010dddddaaaaabbbbbpppww001000", Name::Vmuleu),
-    Row(b"101010dddddaaaaabbbbbpppww001001", Name::Vmulou),
-    Row(b"101010dddddaaaaa00000pppww001010", Name::Vsqeu),
-    Row(b"101010dddddaaaaa00000pppww001011", Name::Vsqou),
-    Row(b"101010dddddaaaaa00000pppww001100", Name::Vrtth),
-    Row(b"101010dddddaaaaabbbbbpppww001101", Name::Vsll),
-    Row(b"101010dddddaaaaaiiiiipppww001110", Name::Vslli),
-    Row(b"101010dddddaaaaabbbbbpppww001111", Name::Vsrl),
-    Row(b"101010dddddaaaaaiiiiipppww010000", Name::Vsrli),
-    Row(b"101010dddddaaaaabbbbbpppww010001", Name::Vsra),
-    Row(b"101010dddddaaaaaiiiiipppww010010", Name::Vsrai),
-    Row(b"100000ddddd00000mmmmmmmmmmmmmmmm", Name::Vld),
-    Row(b"100001ddddd00000mmmmmmmmmmmmmmmm", Name::Vsd),
-    Row(b"100010ddddd00000mmmmmmmmmmmmmmmm", Name::Vbez),
-    Row(b"100011ddddd00000mmmmmmmmmmmmmmmm", Name::Vbnez),
-    Row(b"11110000000000000000000000000000", Name::Vnop),
-];
+pub static CARDINAL: Manual = Manual {
+    table: Table::Cardinal,
+    rows: [
+        Row(*b"101010dddddaaaaabbbbb000ww000001", Mnemonic::Vand),
+        Row(*b"101010dddddaaaaabbbbb000ww000010", Mnemonic::Vor),
+        Row(*b"101010dddddaaaaabbbbb000ww000011", Mnemonic::Vxor),
+        Row(*b"101010dddddaaaaa00000000ww000100", Mnemonic::Vnot),
+        Row(*b"101010dddddaaaaa00000000ww000101", Mnemonic::Vmov),
+        Row(*b"101010dddddaaaaabbbbb000ww000110", Mnemonic::Vadd),
+        Row(*b"101010dddddaaaaabbbbb000ww000111", Mnemonic::Vsub),
+        Row(*b"101010dddddaaaaabbbbb000ww001000", Mnemonic::Vmuleu),
+        Row(*b"101010dddddaaaaabbbbb000ww001001", Mnemonic::Vmulou),
+        Row(*b"101010dddddaaaaabbbbb000ww001010", Mnemonic::Vsll),
+        Row(*b"101010dddddaaaaabbbbb000ww001011", Mnemonic::Vsrl),
+        Row(*b"101010dddddaaaaabbbbb000ww001100", Mnemonic::Vsra),
+        Row(*b"101010dddddaaaaa00000000ww001101", Mnemonic::Vrtth),
+        Row(*b"101010dddddaaaaabbbbb000ww001110", Mnemonic::Vdiv),
+        Row(*b"101010dddddaaaaabbbbb000ww001111", Mnemonic::Vmod),
+        Row(*b"101010dddddaaaaa00000000ww010000", Mnemonic::Vsqeu),
+        Row(*b"101010dddddaaaaa00000000ww010001", Mnemonic::Vsqou),
+        Row(*b"101010dddddaaaaa00000000ww010010", Mnemonic::Vsqrt),
+        Row(*b"100000ddddd00000mmmmmmmmmmmmmmmm", Mnemonic::Vld),
+        Row(*b"100001ddddd00000mmmmmmmmmmmmmmmm", Mnemonic::Vsd),
+        Row(*b"100010ddddd00000mmmmmmmmmmmmmmmm", Mnemonic::Vbez),
+        Row(*b"100011ddddd00000mmmmmmmmmmmmmmmm", Mnemonic::Vbnez),
+        Row(*b"11110000000000000000000000000000", Mnemonic::Vnop),
+    ],
+    cases: cases::CARDINAL,
+    illegal_words: cases::ILLEGAL_IN_CARDINAL,
+};
 
-static CARDINAL: [Row; 23] = [
-    Row(b"101010dddddaaaaabbbbb000ww000001", Name::Vand),
-    Row(b"101010dddddaaaaabbbbb000ww000010", Name::Vor),
-    Row(b"101010dddddaaaaabbbbb000ww000011", Name::Vxor),
-    Row(b"101010dddddaaaaa00000000ww000100", Name::Vnot),
-    Row(b"101010dddddaaaaa00000000ww000101", Name::Vmov),
-    Row(b"101010dddddaaaaabbbbb000ww000110", Name::Vadd),
-    Row(b"101010dddddaaaaabbbbb000ww000111", Name::Vsub),
-    Row(b"101010dddddaaaaabbbbb000ww001000", Name::Vmuleu),
-    Row(b"101010dddddaaaaabbbbb000ww001001", Name::Vmulou),
-    Row(b"101010dddddaaaaabbbbb000ww001010", Name::Vsll),
-    Row(b"101010dddddaaaaabbbbb000ww001011", Name::Vsrl),
-    Row(b"101010dddddaaaaabbbbb000ww001100", Name::Vsra),
-    Row(b"101010dddddaaaaa00000000ww001101", Name::Vrtth),
-    Row(b"101010dddddaaaaabbbbb000ww001110", Name::Vdiv),
-    Row(b"101010dddddaaaaabbbbb000ww001111", Name::Vmod),
-    Row(b"101010dddddaaaaa00000000ww010000", Name::Vsqeu),
-    Row(b"101010dddddaaaaa00000000ww010001", Name::Vsqou),
-    Row(b"101010dddddaaaaa00000000ww010010", Name::Vsqrt),
-    Row(b"100000ddddd00000mmmmmmmmmmmmmmmm", Name::Vld),
-    Row(b"100001ddddd00000mmmmmmmmmmmmmmmm", Name::Vsd),
-    Row(b"100010ddddd00000mmmmmmmmmmmmmmmm", Name::Vbez),
-    Row(b"100011ddddd00000mmmmmmmmmmmmmmmm", Name::Vbnez),
-    Row(b"11110000000000000000000000000000", Name::Vnop),
-];
-
-impl Set {
-    /// The rows of the set's manual.
-    pub fn rows(&self) -> &'static [Row] {
-        match self {
-            Set::Gold => &GOLD,
-            Set::Cardinal => &CARDINAL,
-        }
-    }
-
-    /// What `word` says in this set, or `None` where it is illegal.
-    pub fn decode(&self, word: u32) -> Option<Found> {
-        for row in self.rows() {
-            if row.fits(word) {
-                return row.read(word).allowed();
-            }
-        }
-        None
+impl Manual {
+    /// What `word` says in this set, or `None` where it is illegal. A field that its pattern lacks is zero.
+    pub fn decode(&self, word: u32) -> Option<Instruction> {
+        let word = Subfield::from(word);
+        self.rows
+            .iter()
+            .find(|row| row.fits(&word))
+            .map(|row| row.read(&word))
+            .filter(is_allowed)
     }
 }
 
 impl Row {
     /// Whether each fixed bit of the pattern is that of `word`.
-    fn fits(&self, word: u32) -> bool {
-        let mut rest = word;
-        for letter in self.0 {
-            let top = rest >> 31;
-            if (*letter == b'0' && top == 1) || (*letter == b'1' && top == 0) {
-                return false;
-            }
-            rest <<= 1;
-        }
-        true
+    fn fits(&self, word: &Subfield) -> bool {
+        self.0.iter().zip(0..32).all(|(letter, i)| match letter {
+            b'0' => !word.bit(i),
+            b'1' => word.bit(i),
+            _ => true,
+        })
     }
 
     /// The number whose bits stand under `letter`; zero where there are none.
-    fn number(&self, word: u32, letter: u8) -> u32 {
-        let mut rest = word;
-        let mut number = 0u32;
-        for place in self.0 {
-            if *place == letter {
-                number = (number << 1) | (rest >> 31);
-            }
-            rest <<= 1;
-        }
-        number
+    fn number(&self, word: &Subfield, letter: u8) -> u32 {
+        self.0
+            .iter()
+            .zip(0..32)
+            .filter(|(place, _)| **place == letter)
+            .fold(0, |number, (_, i)| number << 1 | u32::from(word.bit(i)))
     }
 
     /// A number of at most five bits.
-    fn small(&self, word: u32, letter: u8) -> u8 {
+    fn small(&self, word: &Subfield, letter: u8) -> u8 {
         (self.number(word, letter) % 32) as u8
     }
 
-    fn read(&self, word: u32) -> Found {
-        Found {
-            kind: self.1,
+    fn read(&self, word: &Subfield) -> Instruction {
+        Instruction {
+            mnemonic: self.1,
             rd: self.small(word, b'd'),
             ra: self.small(word, b'a'),
             rb: self.small(word, b'b'),
@@ -175,19 +131,11 @@ impl Row {
     }
 }
 
-impl Found {
-    /// The limits that a pattern does not show: PPP ends at 4, and products have no width of 64.
-    fn allowed(self) -> Option<Found> {
-        if self.ppp > 4 || (self.ww == 3 && self.is_product()) {
-            return None;
-        }
-        Some(self)
-    }
-
-    fn is_product(&self) -> bool {
-        matches!(
-            self.kind,
-            Name::Vmuleu | Name::Vmulou | Name::Vsqeu | Name::Vsqou
-        )
-    }
+/// The limits that a pattern does not show: PPP ends at 4, and products have no width of 64.
+fn is_allowed(found: &Instruction) -> bool {
+    let is_product = matches!(
+        found.mnemonic,
+        Mnemonic::Vmuleu | Mnemonic::Vmulou | Mnemonic::Vsqeu | Mnemonic::Vsqou
+    );
+    found.ppp <= 4 && !(found.ww == 3 && is_product)
 }

@@ -7,13 +7,20 @@ pub fn bit(register: u64, i: u32) -> bool {
 }
 
 /// The register with bit `i` set or cleared.
-pub fn with_bit(register: u64, i: u32, on: bool) -> u64 {
+fn with_bit(register: u64, i: u32, on: bool) -> u64 {
     let place = 1u64 << (63 - i % 64);
     if on {
         register | place
     } else {
         register & !place
     }
+}
+
+/// A register whose first `count` bits are what `bit_at` says of each place. The others are clear.
+pub fn gathered<F: Fn(u32) -> bool>(count: u32, bit_at: F) -> u64
+    requires { F.IsAlwaysCallable bit_at }
+{
+    (0..count).fold(0, |register, i| with_bit(register, i, bit_at(i)))
 }
 
 /// A subfield taken out of its register. Its bits are the first `width` ones of `bits`.
@@ -30,31 +37,45 @@ pub struct Division {
     pub remainder: Subfield,
 }
 
+/// The bits of an instruction word.
+impl From<u32> for Subfield {
+    fn from(word: u32) -> Subfield {
+        Subfield {
+            width: 32,
+            bits: u64::from(word) << 32,
+        }
+    }
+}
+
 impl Subfield {
-    pub fn zero(width: u32) -> Subfield {
+    fn zero(width: u32) -> Subfield {
         Subfield { width, bits: 0 }
+    }
+
+    fn from_fn<F: Fn(u32) -> bool>(width: u32, bit_at: F) -> Subfield
+        requires { F.IsAlwaysCallable bit_at }
+    {
+        Subfield {
+            width,
+            bits: gathered(width, bit_at),
+        }
     }
 
     /// The `width` bits of `register` from bit `start` on.
     pub fn read(register: u64, start: u32, width: u32) -> Subfield {
-        let mut field = Subfield::zero(width);
-        for i in 0..width {
-            field.set(i, bit(register, start.wrapping_add(i)));
-        }
-        field
+        Subfield::from_fn(width, |i| bit(register, start.wrapping_add(i)))
     }
 
     /// `register` with these bits from bit `start` on.
     pub fn write(&self, register: u64, start: u32) -> u64 {
-        let mut new = register;
-        for i in 0..self.width {
-            new = with_bit(new, start.wrapping_add(i), self.bit(i));
-        }
-        new
+        (0..self.width).fold(register, |new, i| {
+            with_bit(new, start.wrapping_add(i), self.bit(i))
+        })
     }
 
+    /// Bit `i`; past the last one it is clear.
     pub fn bit(&self, i: u32) -> bool {
-        bit(self.bits, i)
+        i < self.width && bit(self.bits, i)
     }
 
     fn set(&mut self, i: u32, on: bool) {
@@ -63,51 +84,37 @@ impl Subfield {
 
     /// The number that the last `count` bits make.
     pub fn low_bits(&self, count: u32) -> u32 {
-        let mut number = 0;
-        for i in self.width.saturating_sub(count)..self.width {
-            number = (number << 1) | u32::from(self.bit(i));
-        }
-        number
+        (self.width.saturating_sub(count)..self.width).fold(
+            0,
+            |number, i| number << 1 | u32::from(self.bit(i)),
+        )
     }
 
     /// The same number at twice the width.
     fn widened(&self) -> Subfield {
-        let mut wide = Subfield::zero(self.width.wrapping_mul(2));
-        for i in 0..self.width {
-            wide.set(self.width.wrapping_add(i), self.bit(i));
-        }
-        wide
+        Subfield::from_fn(self.width.wrapping_mul(2), |i| {
+            i >= self.width && self.bit(i - self.width)
+        })
     }
 
     fn inverted(&self) -> Subfield {
-        let mut field = Subfield::zero(self.width);
-        for i in 0..self.width {
-            field.set(i, !self.bit(i));
-        }
-        field
+        Subfield::from_fn(self.width, |i| !self.bit(i))
     }
 
     fn is_zero(&self) -> bool {
-        for i in 0..self.width {
-            if self.bit(i) {
-                return false;
-            }
-        }
-        true
+        (0..self.width).all(|i| !self.bit(i))
     }
 
     /// Whether this number is `other` or more: the first bit that differs decides.
     fn at_least(&self, other: &Subfield) -> bool {
-        for i in 0..self.width {
-            if self.bit(i) != other.bit(i) {
-                return self.bit(i);
-            }
-        }
-        true
+        (0..self.width)
+            .find(|i| self.bit(*i) != other.bit(*i))
+            .is_none_or(|i| self.bit(i))
     }
 
     /// The sum by a carry that goes from the last bit to the first. The last carry is lost.
     fn with_carry(&self, other: &Subfield, carry_in: bool) -> Subfield {
+        // A loop: a fold would hand on the sum and the carry in a pair.
         let mut sum = Subfield::zero(self.width);
         let mut carry = carry_in;
         for i in (0..self.width).rev() {
@@ -128,43 +135,40 @@ impl Subfield {
     }
 
     pub fn shifted_left(&self, by: u32) -> Subfield {
-        let mut field = Subfield::zero(self.width);
-        for i in by..self.width {
-            field.set(i - by, self.bit(i));
-        }
-        field
+        Subfield::from_fn(self.width, |i| self.bit(i.saturating_add(by)))
     }
 
     /// The bits moved to the right, with `fill` in the places that they leave.
     pub fn shifted_right(&self, by: u32, fill: bool) -> Subfield {
-        let mut field = Subfield::zero(self.width);
-        for i in 0..self.width {
-            field.set(i, if i < by { fill } else { self.bit(i - by) });
-        }
-        field
+        Subfield::from_fn(self.width, |i| if i < by { fill } else { self.bit(i - by) })
+    }
+
+    pub fn first_half(&self) -> Subfield {
+        Subfield::read(self.bits, 0, self.width / 2)
+    }
+
+    pub fn second_half(&self) -> Subfield {
+        Subfield::read(self.bits, self.width / 2, self.width / 2)
     }
 
     pub fn halves_swapped(&self) -> Subfield {
         let half = self.width / 2;
-        let mut field = Subfield::zero(self.width);
-        for i in 0..half {
-            field.set(i, self.bit(half.wrapping_add(i)));
-            field.set(half.wrapping_add(i), self.bit(i));
-        }
-        field
+        Subfield::from_fn(self.width, |i| {
+            self.bit(if i < half { i + half } else { i - half })
+        })
     }
 
     /// The unsigned product at twice the width, by shifts and sums.
     pub fn times(&self, other: &Subfield) -> Subfield {
         let addend = self.widened();
-        let mut product = Subfield::zero(addend.width);
-        for i in 0..other.width {
-            product = product.shifted_left(1);
+        (0..other.width).fold(Subfield::zero(addend.width), |product, i| {
+            let doubled = product.shifted_left(1);
             if other.bit(i) {
-                product = product.plus(&addend);
+                doubled.plus(&addend)
+            } else {
+                doubled
             }
-        }
-        product
+        })
     }
 
     /// Long division, one bit of the quotient at a time. By zero it gives zeros.
@@ -177,6 +181,7 @@ impl Subfield {
                 remainder,
             };
         }
+        // A loop: a fold would hand on the quotient and the remainder in a pair.
         for i in 0..self.width {
             let carried_out = remainder.bit(0);
             remainder = remainder.shifted_left(1);
@@ -195,14 +200,16 @@ impl Subfield {
     /// The largest number whose square is not above this one, tried bit by bit.
     pub fn root(&self) -> Subfield {
         let half = self.width / 2;
-        let mut root = Subfield::zero(half);
-        for i in 0..half {
-            let mut larger = root;
-            larger.set(i, true);
-            if self.at_least(&larger.times(&larger)) {
-                root = larger;
-            }
-        }
-        root.widened()
+        (0..half)
+            .fold(Subfield::zero(half), |root, i| {
+                let mut larger = root;
+                larger.set(i, true);
+                if self.at_least(&larger.times(&larger)) {
+                    larger
+                } else {
+                    root
+                }
+            })
+            .widened()
     }
 }

@@ -1,6 +1,6 @@
 //! One row of the tiles of eight makers, woven into words: pixel x of maker k is byte k of word x.
 use base::Width;
-use std::fmt;
+use std::{array, fmt};
 
 pub const PIXELS: usize = 8;
 
@@ -18,62 +18,56 @@ const HEIGHTS: [[u8; 9]; 8] = [
 
 /// The heights of all makers at one pixel.
 pub fn heights_at(pixel: usize) -> u64 {
-    let mut word = 0;
-    for (maker, row) in HEIGHTS.iter().enumerate() {
+    HEIGHTS.iter().zip(0..).fold(0, |word, (row, maker)| {
         let height = row.get(pixel).copied().unwrap_or(0);
-        word = Width::W8
-            .put(maker as u32, height as u64, word)
-            .unwrap_or(word);
-    }
-    word
+        Width::W8
+            .put(maker, u64::from(height), word)
+            .unwrap_or(word)
+    })
 }
 
 /// The heights of all makers along the row.
 pub fn heights() -> [u64; PIXELS] {
-    let mut row = [0; PIXELS];
-    for pixel in 0..PIXELS {
-        row[pixel] = heights_at(pixel);
-    }
-    row
+    array::from_fn(heights_at)
 }
 
-/// A maker's pixels in a row of words, as numbers and as shades.
-#[derive(Clone, Copy)]
-pub struct Strip<'a> {
-    pub maker: u32,
-    pub words: &'a [u64],
-}
-
-impl fmt::Display for Strip<'_> {
-    fn fmt<W: fmt::Write>(&self, f: &mut fmt::Formatter<W>) -> fmt::Result {
-        let (maker, words) = (self.maker, self.words);
-        for word in words {
-            let pixel = Width::W8.get(maker, *word).unwrap_or(0);
-            write!(f, " {pixel:>3}")?;
-        }
-        let shades = Shades { maker, words };
-        write!(f, "  {shades}")
-    }
-}
-
-/// A maker's pixels in a row of words, as shades alone.
+/// A maker's pixels in a row of words, printed as shades.
 #[derive(Clone, Copy)]
 pub struct Shades<'a> {
     pub maker: u32,
     pub words: &'a [u64],
 }
 
+/// The same pixels, printed as numbers and as shades.
+#[derive(Clone, Copy)]
+pub struct Strip<'a>(pub Shades<'a>);
+
 /// From dark to bright.
 const SHADES: [char; 8] = [' ', '.', ':', '-', '=', '+', '#', '@'];
+
+impl Shades<'_> {
+    fn pixel(&self, word: u64) -> u64 {
+        Width::W8.get(self.maker, word).unwrap_or(0)
+    }
+}
 
 impl fmt::Display for Shades<'_> {
     fn fmt<W: fmt::Write>(&self, f: &mut fmt::Formatter<W>) -> fmt::Result {
         write!(f, "|")?;
         for word in self.words {
-            let pixel = Width::W8.get(self.maker, *word).unwrap_or(0);
-            let shade = SHADES[(pixel / 32 % 8) as usize];
+            let shade = SHADES[(self.pixel(*word) / 32 % 8) as usize];
             write!(f, "{shade}")?;
         }
         write!(f, "|")
+    }
+}
+
+impl fmt::Display for Strip<'_> {
+    fn fmt<W: fmt::Write>(&self, f: &mut fmt::Formatter<W>) -> fmt::Result {
+        for word in self.0.words {
+            let pixel = self.0.pixel(*word);
+            write!(f, " {pixel:>3}")?;
+        }
+        write!(f, "  {}", self.0)
     }
 }
