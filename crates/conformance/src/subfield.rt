@@ -17,7 +17,7 @@ fn with_bit(register: u64, i: u32, on: bool) -> u64 {
 }
 
 /// A register whose first `count` bits are what `bit_at` says of each place. The others are clear.
-pub fn gathered<F: Fn(u32) -> bool>(count: u32, bit_at: F) -> u64
+pub(crate) fn gathered<F: Fn(u32) -> bool>(count: u32, bit_at: F) -> u64
     requires { F.IsAlwaysCallable bit_at }
 {
     (0..count).fold(0, |register, i| with_bit(register, i, bit_at(i)))
