@@ -1,5 +1,5 @@
 //! Whole square roots.
-ghost use Rattle.std.specs.Prelude.{◌≡◌, ◌*◌, ◌^◌, ◌<◌, ◌≤◌};
+ghost use Rattle.std.specs.Prelude.{◌≡◌};
 ghost use Rattle.alu.specs.Roots.{Root, root_of};
 
 const ROOTS: [u8; 256] = [
@@ -20,6 +20,7 @@ fn root8(x: u8) -> u8
     ensures rule { Root x result }
     ensures value { result ≡ root_of x }
 {
+    // `as`: with `usize::from` the proof of the rule did not close.
     ROOTS[x as usize]
 }
 

@@ -1,15 +1,13 @@
 -- The words that a trial shows, by place.
-use Rattle.std.proofs.Common.{◌≡◌, ℕ, ◌+◌, ◌<◌, ◌≤◌, Bool, true, false, cond, ◌&&◌, ltb, ◌≢◌, List, map, length, get_or, set, replicate, Some, None, Option, unwrap_or, sym, refl, ap, ◌∙◌, ⊎_elim, arith, get_or-set_other, get_or-set_same}
-use lib.ListN.{length-replicate, get_or-replicate}
-use Rattle.std.proofs.lemmas.List.FromFn.{length-map-range_with_len}
-use Rattle.std.proofs.lemmas.List.{get_or_past}
-use Rattle.std.proofs.lemmas.Bool.{cases_lt, cases_eq, cases_Bool, lt-ltb, cond-true, cond-false}
+use Rattle.std.proofs.Common.{◌≡◌, ℕ, ◌+◌, ◌<◌, ◌≤◌, true, false, cond, ◌&&◌, ltb, ◌≢◌, List, map, length, get_or, set, replicate, Some, None, Option, sym, refl, ap, ◌∙◌, ⊎_elim, arith}
+use Rattle.std.proofs.lemmas.List.FromFn.{length-map-range_with_len, get_or-map-range_with_len, fill_by_all}
+use Rattle.std.proofs.lemmas.Bool.{cases_lt, cases_eq, cases_Bool, cond-true, cond-false}
 use Rattle.std.proofs.lemmas.Bool.Decides.{nat_tests}
+use Rattle.std.proofs.lemmas.Grind.{common_steps}
 use Rattle.std.specs.List.{range_with_len}
 use Rattle.bank.specs.Store.{Store, size, open_at, with_words, write_at}
-use Rattle.bank.specs.Trials.{above, word_over, overlaid, shown_over}
-use Rattle.bank.specs.Steps.{wrote_some}
-use Rattle.bank.proofs.Tabulated.{get_or-tabulated, tabulated_same, tabulated_list, tabulated_set}
+use Rattle.bank.specs.Trials.{above, word_over, overlaid, trial_over}
+use Rattle.bank.proofs.Tabulated.{tabulated_same, tabulated_set}
 
 module _ (s : Store) (a : ℕ) where
   pub open_under : a < 1024 → open_at s a ≡ open_at (above s) a
@@ -29,42 +27,28 @@ module _ (os : List (Option ℕ)) (s : Store) where
   size_over = length-map-range_with_len (word_over os s) 0 (size s)
 
   pub word_over_lem : (k : ℕ) → k < size s → get_or (overlaid os s).words k 0 ≡ word_over os s k
-  word_over_lem k h = get_or-tabulated (word_over os s) (size s) k h
+  word_over_lem k h = get_or-map-range_with_len (word_over os s) 0 (size s) k k 0 h (omega arith)
 
   -- a write in a trial
   pub over_set : (a v : ℕ) → open_at s a ≡ true → a < length os → overlaid (set os a (Some v)) s ≡ write_at (overlaid os s) a v
   over_set a v o h =
       let n = size_over in
-      let p : open_at (overlaid os s) a ≡ true = ap (λ n. ltb a n && s.marks a) n ∙ o in
-      let here : word_over (set os a (Some v)) s a ≡ v =
-      cond-true (open_at s a) _ _ o ∙ ap (λ x. unwrap_or x (get_or s.words a 0)) (get_or-set_same os a (Some v) None h) in
-      ap (with_words s)
-      (sym (tabulated_set (word_over os s) (word_over (set os a (Some v)) s) (size s) a v here
-      (λ k _ ne. ap (λ x. cond (open_at s k) (unwrap_or x (get_or s.words k 0)) (get_or s.words k 0)) (sym (get_or-set_other os a k (Some v) None ne))))
-      ∙ sym (cond-true (open_at (overlaid os s) a) (set (overlaid os s).words a v) (overlaid os s).words p))
-
-none_at : (n k : ℕ) → get_or (replicate {A = Option ℕ} n None) k None ≡ None
-none_at n k = ⊎_elim (λ h. get_or-replicate n k None None h) (λ h. get_or_past (replicate n None) k None (simp length-replicate h)) (cases_lt k n)
-
-same_ways : {A : Type 0} (b : Bool) (x : A) → x ≡ cond b x x
-same_ways true x = refl
-same_ways false x = refl
+      ap (with_words s) (sym (tabulated_set (word_over os s) (word_over (set os a (Some v)) s) (size s) a v
+      (grind (arith, common_steps)) (λ k _ ne. grind (arith, common_steps)))
+      ∙ sym (cond-true (open_at (overlaid os s) a) (set (overlaid os s).words a v) (overlaid os s).words (grind (arith, nat_tests))))
 
 -- nothing written yet
 pub over_none : (n : ℕ) (s : Store) → overlaid (replicate n None) s ≡ s
-over_none n s =
-    ap (with_words s)
-    (sym (tabulated_list (word_over (replicate n None) s) s.words
-    (λ k _. same_ways (open_at s k) (get_or s.words k 0) ∙ ap (λ x. cond (open_at s k) (unwrap_or x (get_or s.words k 0)) (get_or s.words k 0)) (sym (none_at n k)))))
+over_none n s = ap (with_words s) (sym (fill_by_all (word_over (replicate n None) s) s.words (size s) 0 refl (λ k _. grind (arith, common_steps, nat_tests))))
 
 -- a trial bank over s, whether a trial is open or not
 module _ (o : Option ℕ) (os : List (Option ℕ)) (s : Store) where
-  pub size_shown : size s ≡ size (shown_over o os s)
-  size_shown = elim o as (λ p. size s ≡ size (shown_over p os s)) [ None ↦ refl | Some k ↦ sym (size_over os (above s)) ]
+  pub size_shown : size s ≡ size (trial_over o os s).shown
+  size_shown = elim o as (λ p. size s ≡ size (trial_over p os s).shown) [ None ↦ refl | Some k ↦ sym (size_over os (above s)) ]
 
-  pub open_shown : (a : ℕ) → open_at (above s) a ≡ open_at (shown_over o os s) a
+  pub open_shown : (a : ℕ) → open_at (above s) a ≡ open_at (trial_over o os s).shown a
   open_shown a =
-      elim o as (λ p. open_at (above s) a ≡ open_at (shown_over p os s) a)
+      elim o as (λ p. open_at (above s) a ≡ open_at (trial_over p os s).shown a)
       [ None ↦ refl | Some k ↦ ap (λ n. ltb a n && (above s).marks a) (sym (size_over os (above s))) ]
 
 -- ---- keeping a trial
@@ -79,7 +63,7 @@ carried os s i = with_words s (map (carried_at os s i) (range_with_len 0 (size s
 
 module _ (os : List (Option ℕ)) (s : Store) where
   pub carried_none : s ≡ carried os s 0
-  carried_none = ap (with_words s) (tabulated_list (carried_at os s 0) s.words (λ k _. grind (arith, nat_tests)))
+  carried_none = ap (with_words s) (fill_by_all (carried_at os s 0) s.words (size s) 0 refl (λ k _. grind (arith, nat_tests)))
 
   pub carried_all : carried os s 1024 ≡ with_words s (overlaid os (above s)).words
   carried_all = ap (with_words s)
@@ -101,23 +85,17 @@ module _ (os : List (Option ℕ)) (s : Store) where
   open_carried : (i : ℕ) → i < 1024 → open_at (carried os s i) i ≡ open_at (above s) i
   open_carried i h = ap (λ n. ltb i n && s.marks i) (length-map-range_with_len (carried_at os s i) 0 (size s)) ∙ open_under s i h
 
-  skipped : (i : ℕ) → get_or os i None ≡ None → carried os s i ≡ carried os s (i + 1)
+  pub skipped : (i : ℕ) → get_or os i None ≡ None → carried os s i ≡ carried os s (i + 1)
   skipped i e = passed i
-      (ap (λ x. cond (open_at (above s) i) (unwrap_or x (get_or s.words i 0)) (get_or s.words i 0)) e ∙ sym (same_ways (open_at (above s) i) (get_or s.words i 0)))
+      (grind arith)
 
-  written_below : (i v : ℕ) → i < 1024 → get_or os i None ≡ Some v → write_at (carried os s i) i v ≡ carried os s (i + 1)
-  written_below i v h e = ⊎_elim
+  pub written_below : (i v : ℕ) → i < 1024 → get_or os i None ≡ Some v → write_at (carried os s i) i v ≡ carried os s (i + 1)
+  written_below i v h e =
+      let p = open_carried i h in
+      ⊎_elim
       (λ (o : open_at (above s) i ≡ true).
-      let here : carried_at os s (i + 1) i ≡ v =
-      cond-true (ltb i (i + 1)) _ _ (lt-ltb i (i + 1) (omega arith)) ∙ cond-true (open_at (above s) i) _ _ o ∙ ap (λ x. unwrap_or x (get_or s.words i 0)) e in
       ap (with_words s)
-      (cond-true (open_at (carried os s i) i) _ _ (open_carried i h ∙ o)
-      ∙ tabulated_set (carried_at os s i) (carried_at os s (i + 1)) (size s) i v here (λ k _ ne. grind (arith, nat_tests))))
-      (λ (o : open_at (above s) i ≡ false).
-      ap (with_words s) (cond-false (open_at (carried os s i) i) _ _ (open_carried i h ∙ o)) ∙ passed i (cond-false (open_at (above s) i) _ _ o))
+      (cond-true (open_at (carried os s i) i) _ _ (p ∙ o)
+      ∙ tabulated_set (carried_at os s i) (carried_at os s (i + 1)) (size s) i v (grind (arith, nat_tests)) (λ k _ ne. grind (arith, nat_tests))))
+      (λ (o : open_at (above s) i ≡ false). ap (with_words s) (cond-false (open_at (carried os s i) i) _ _ (p ∙ o)) ∙ passed i (grind arith))
       (cases_Bool (open_at (above s) i))
-
-  -- a turn of the loop
-  pub carried_more : (i : ℕ) (x : Option ℕ) → i < 1024 → get_or os i None ≡ x → wrote_some (carried os s i) i x ≡ carried os s (i + 1)
-  carried_more i None h e = skipped i e
-  carried_more i (Some v) h e = written_below i v h e

@@ -1,5 +1,5 @@
 -- A trial from its opening to its end.
-use Rattle.std.proofs.Common.{◌≡◌, ℕ, true, List, [], ◌∷◌, Some, Result, refl, ap, ◌∙◌}
+use Rattle.std.proofs.Common.{◌≡◌, ℕ, true, List, [], ◌∷◌, Some, Ok, Err, Result, refl, ap, ◌∙◌, arith}
 use Rattle.std.proofs.lemmas.Bool.{cond-true, eq-eqb}
 use Rattle.bank.specs.declared.token.Token.{Token}
 use Rattle.bank.specs.declared.token.Unspent.{Unspent}
@@ -40,13 +40,21 @@ module _ (s : Store) (k : ℕ) (ws : List (ℕ × ℕ)) (t : Trial) (e : Reached
   done_writes : kept t k ≡ wrote_all (standing s) ws
   done_writes = done ∙ ap (λ u. standing (with_words u.below u.shown.words)) reached ∙ with_none s ws
 
-module _ (t u : Trial) (o : Token) (r : Result (Unit {0}) Unspent) (answer : r ≡ end_answer t o) where
-  pub is_undone : u ≡ dropped t o.ticket → Undone t o.ticket r u
-  is_undone after s ws e = (answer ∙ cond-true _ _ _ (own s o.ticket ws t e), after ∙ undone s o.ticket ws t e)
+-- the token is another trial's
+module _ (t : Trial) (o : Token) (x : Unspent) (r : Result (Unit {0}) Unspent) (u : Trial) (refused : Err x ≡ end_answer t o) where
+  other : is_ticket t.ticket o.ticket ≡ true → ⊥
+  other e = grind arith
 
-  pub is_done : u ≡ kept t o.ticket → Done t o.ticket r u
-  is_done after s ws e = (
-    answer ∙ cond-true _ _ _ (own s o.ticket ws t e),
-    ap (λ x. x.below.words) (after ∙ done s o.ticket ws t e),
-    after ∙ done_writes s o.ticket ws t e,
-  )
+  pub refused_undone : Undone t o.ticket r u
+  refused_undone s ws e = absurd (other (own s o.ticket ws t e))
+
+  pub refused_done : Done t o.ticket r u
+  refused_done s ws e = absurd (other (own s o.ticket ws t e))
+
+-- it is the open trial's
+module _ (t u : Trial) (k : ℕ) where
+  pub is_undone : u ≡ dropped t k → Undone t k (Ok tt) u
+  is_undone after s ws e = (refl, after ∙ undone s k ws t e)
+
+  pub is_done : u ≡ kept t k → Done t k (Ok tt) u
+  is_done after s ws e = (refl, ap (λ x. x.below.words) (after ∙ done s k ws t e), after ∙ done_writes s k ws t e)

@@ -1,3 +1,4 @@
+pub mod Bounds
 pub mod Bytes
 pub mod Steps
 pub mod Store

@@ -28,17 +28,14 @@ word_over os s a = cond (open_at s a) (unwrap_or (slice_index_or os a None) (sli
 abbrev pub overlaid : List (Option ℕ) → Store → Store
 overlaid os s = with_words s (map (word_over os s) (range_with_len 0 (size s)))
 
--- a trial bank over s with the overlay os, which counts while a trial is open
-abbrev pub shown_over : Option ℕ → List (Option ℕ) → Store → Store
-shown_over None os s = above s
-shown_over (Some k) os s = overlaid os (above s)
-
-abbrev pub trial_over : Option ℕ → List (Option ℕ) → Store → Trial
-trial_over o os s = record { ticket = o; below = s; shown = shown_over o os s }
-
 -- no trial is open over s
 abbrev pub standing : Store → Trial
 standing s = record { ticket = None; below = s; shown = above s }
+
+-- a trial bank over s, by the open trial's ticket and the overlay os, which counts while a trial is open
+abbrev pub trial_over : Option ℕ → List (Option ℕ) → Store → Trial
+trial_over None os s = standing s
+trial_over (Some k) os s = record { ticket = Some k; below = s; shown = overlaid os (above s) }
 
 -- what a trial bank holds and stands over; m is what the bank below means
 abbrev pub state : {B : Type 0} → (B → Store) → TrialBank B → Trial
@@ -52,6 +49,11 @@ held_below (Some k) s = s
 -- f is what is fixed of the bank below
 abbrev pub fixed_over : {B : Type 0} → (B → Store) → (B → Fixed) → TrialBank B → Fixed
 fixed_over m f t = Over t.below.ghost_name t.ticket (f t.below.now) (held_below t.ticket (m t.below.now))
+
+-- a call leaves the bank that is lent, and what is fixed of it; f is what is fixed
+pub record SameBelow {B : Type 0} (f : B → Fixed) (old new : TrialBank B) : Type 0 where
+  pub lent : new.below.ghost_name ≡ old.below.ghost_name
+  pub under : f new.below.now ≡ f old.below.now
 
 -- opening
 abbrev pub open_answer : Trial → ℕ → Result Token Fault

@@ -1,8 +1,9 @@
 //! A bank over bytes that the caller lends.
-ghost use Rattle.std.specs.Prelude.{◌≡◌, ℕ, ◌+◌, ◌*◌, ◌<◌, ◌≤◌, ◌⊎◌, slice_index};
-ghost use Rattle.bank.specs.Bytes.{bytes_of, words_of, rest_of, bytes_after};
+ghost use Rattle.std.specs.Prelude.{◌≡◌, ℕ, ◌+◌, ◌*◌, ◌<◌, ◌≤◌, ◌⊎◌, map, slice_index};
+ghost use Rattle.std.specs.Int.{w64, from_be_bytes};
+ghost use Rattle.bank.specs.Bounds.{few_bytes};
+ghost use Rattle.bank.specs.Bytes.{words_of, rest_of, bytes_after};
 ghost use Rattle.bank.specs.Store.{Lent, all_open, write_answer, write_at};
-ghost use Rattle.std.specs.Int.Digits.{number_from_digits};
 
 use crate::store::{Bank, MAX_WORDS};
 use base::Fault;
@@ -20,20 +21,14 @@ impl<'a> ByteBank<'a> {
     {
         ByteBank { bytes }
     }
-}
 
-/// The word of eight bytes.
-fn join(bytes: [u8; 8]) -> u64
-    ensures { result ≡ number_from_digits 256 bytes }
-{
-    u64::from_be_bytes(bytes)
-}
-
-/// The eight bytes of a word.
-fn split(word: u64) -> [u8; 8]
-    ensures { result ≡ bytes_of 8 word }
-{
-    word.to_be_bytes()
+    /// The bytes of each word.
+    fn words(&self) -> &[[u8; 8]]
+        ensures { map (from_be_bytes w64) result.now ≡ words_of self.now.bytes.now }
+    {
+        let (words, _) = self.bytes.as_chunks();
+        &words[..words.len().min(MAX_WORDS)]
+    }
 }
 
 impl<'a> Bank for ByteBank<'a> {
@@ -41,24 +36,22 @@ impl<'a> Bank for ByteBank<'a> {
 
     ghost fixed = { λ b. Lent b.bytes.ghost_name (rest_of b.bytes.now) };
 
+    ghost few = { λ b. few_bytes b.bytes.now };
+
     fn size(&self) -> usize {
-        (self.bytes.len() / 8).min(MAX_WORDS)
+        self.words().len()
     }
 
     fn is_open(&self, address: usize) -> bool {
-        address < self.size()
+        address < self.size() // as in `WordBank`: a trait for both would be longer than the line
     }
 
     fn read(&self, address: usize) -> Result<u64, Fault> {
-        if address >= self.size() {
-            return Err(Fault::Address);
-        }
-        let at = 8 * address;
-        let mut bytes = [0; 8];
-        bytes.copy_from_slice(&self.bytes[at..at + 8]);
-        Ok(join(bytes))
+        let word = self.words().get(address).ok_or(Fault::Address)?;
+        Ok(u64::from_be_bytes(*word))
     }
 
+    #[tactic(auto, using(crate::proofs::Groups::word_within, crate::proofs::Groups::bytes_kept))]
     fn write(&mut self, address: usize, value: u64) -> Result<(), Fault>
         ensures answer { result ≡ write_answer (all_open (words_of self.old.bytes.now)) address }
         ensures after { all_open (words_of self.new.bytes.now) ≡ write_at (all_open (words_of self.old.bytes.now)) address value }
@@ -66,11 +59,10 @@ impl<'a> Bank for ByteBank<'a> {
         ensures bytes { self.new.bytes.now ≡ bytes_after self.old.bytes.now address value }
         ensures untouched { (k : ℕ) → (k < 8 * address) ⊎ (8 * address + 8 ≤ k) → slice_index self.new.bytes.now k ≡ slice_index self.old.bytes.now k }
     {
-        if address >= self.size() {
-            return Err(Fault::Address);
-        }
+        self.read(address)?;
+        // By place: the contract of `as_chunks_mut` does not say what the bytes end as.
         let at = 8 * address;
-        self.bytes[at..at + 8].copy_from_slice(&split(value));
+        self.bytes[at..at + 8].copy_from_slice(&value.to_be_bytes());
         Ok(())
     }
 }

@@ -12,7 +12,7 @@ pub trait Bank {
     // The words and their marks.
     ghost meaning: { Self → Store };
 
-    // What no write to the bank changes.
+    // What no write to the bank changes. Contracts say so by an equation: a name for it would be no shorter.
     ghost fixed: { Self → Fixed };
 
     /// How many words there are.
@@ -33,4 +33,7 @@ pub trait Bank {
         ensures answer { result ≡ write_answer (meaning self.old) address }
         ensures after { meaning self.new ≡ write_at (meaning self.old) address value }
         ensures stays { fixed self.new ≡ fixed self.old };
+
+    // How many words a bank has at most; code over any bank knows it of every address that is there.
+    ghost few: { (b : Self) → size (meaning b) ≤ 65536 };
 }

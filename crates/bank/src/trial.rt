@@ -1,33 +1,37 @@
 //! Trials over any bank: writes that stay above it until they are kept.
 ghost use Rattle.std.specs.Prelude.{◌≡◌};
 ghost use Rattle.bank.specs.Store.{write_answer, write_at};
-ghost use Rattle.bank.specs.Steps.{wrote_some, settled, written};
-ghost use Rattle.bank.specs.Trials.{state, fixed_over, standing, open_answer, opened, wrote, end_answer, kept, dropped, ended, Undone, Done};
+ghost use Rattle.bank.specs.Steps.{settled};
+ghost use Rattle.bank.specs.Trials.{state, fixed_over, standing, open_answer, opened, wrote, end_answer, kept, dropped, ended, SameBelow, Undone, Done};
+ghost use Rattle.bank.specs.Bounds.{few_over};
 
 use crate::store::Bank;
 use crate::token::{End, Token, Unspent};
 use base::Fault;
 
-/// Writes a word to a bank, if there is one to write.
-fn write_some<B: Bank>(bank: &mut B, address: usize, word: Option<u64>)
-    ensures after { B.Bank.meaning bank.new ≡ wrote_some (B.Bank.meaning bank.old) address word }
-    ensures stays { B.Bank.fixed bank.new ≡ B.Bank.fixed bank.old }
-{
-    if let Some(word) = word {
-        let _ = bank.write(address, word);
-    }
-}
-
 /// How many words a trial can change: those at the addresses under it.
 pub const TRIAL_WORDS: usize = 1024;
 
+/// Writes to a bank what a trial wrote over it.
+fn settle<B: Bank>(bank: &mut B, overlay: &[Option<u64>; TRIAL_WORDS])
+    ensures after { B.Bank.meaning bank.new ≡ settled overlay.now (B.Bank.meaning bank.old) }
+    ensures stays { B.Bank.fixed bank.new ≡ B.Bank.fixed bank.old }
+{
+    for (address, word) in overlay.iter().enumerate() {
+        if let Some(word) = word {
+            let _ = bank.write(address, *word); // a word that is closed below is left
+        }
+    }
+}
+
 /// A bank over another. It has the words below, and open are those that are open below and lie under 1,024. While a trial
 /// is open, writes stay here; with none open they go straight below.
+// Clauses name the fields: under an `impl Model` a caller would not know what stands below once the bank is let go.
 #[derive(Drop)]
 pub struct TrialBank<'a, B> {
     below: &'a mut B,
     ticket: Option<u32>,
-    overlay: [Option<u64>; TRIAL_WORDS],
+    overlay: [Option<u64>; TRIAL_WORDS], // in one `Option` with the ticket, opening would copy 16 KiB and take twice as long
 }
 
 impl<'a, B: Bank> TrialBank<'a, B> {
@@ -62,8 +66,7 @@ impl<'a, B: Bank> TrialBank<'a, B> {
     pub fn open(&mut self, ticket: u32) -> Result<Token, Fault>
         ensures answer { result ≡ open_answer (state B.Bank.meaning self.old) ticket }
         ensures after { state B.Bank.meaning self.new ≡ opened (state B.Bank.meaning self.old) ticket }
-        ensures lent { self.new.below.ghost_name ≡ self.old.below.ghost_name }
-        ensures under { B.Bank.fixed self.new.below.now ≡ B.Bank.fixed self.old.below.now }
+        ensures same_below { SameBelow B.Bank.fixed self.old self.new }
     {
         if self.ticket.is_some() {
             return Err(Fault::TrialOpen);
@@ -87,29 +90,15 @@ impl<'a, B: Bank> TrialBank<'a, B> {
         Ok(())
     }
 
-    /// Writes below what the trial wrote.
-    fn settle(&mut self)
-        ensures after { B.Bank.meaning self.new.below.now ≡ settled self.old.overlay (B.Bank.meaning self.old.below.now) }
-        ensures same { self.new.ticket ≡ self.old.ticket }
-        ensures lent { self.new.below.ghost_name ≡ self.old.below.ghost_name }
-        ensures under { B.Bank.fixed self.new.below.now ≡ B.Bank.fixed self.old.below.now }
-    {
-        for address in 0..TRIAL_WORDS {
-            let word = self.overlay[address];
-            write_some(self.below, address, word);
-        }
-    }
-
     /// Ends the token's trial and leaves below the words that it showed. Refused with `NoSuchTrial`.
     pub fn keep(&mut self, token: Token) -> Result<(), Unspent>
         ensures answer { result ≡ end_answer (state B.Bank.meaning self.old) token }
         ensures after { state B.Bank.meaning self.new ≡ kept (state B.Bank.meaning self.old) token.ticket }
         ensures done { Done (state B.Bank.meaning self.old) token.ticket result (state B.Bank.meaning self.new) }
-        ensures lent { self.new.below.ghost_name ≡ self.old.below.ghost_name }
-        ensures under { B.Bank.fixed self.new.below.now ≡ B.Bank.fixed self.old.below.now }
+        ensures same_below { SameBelow B.Bank.fixed self.old self.new }
     {
         self.spend(token)?;
-        self.settle();
+        settle(self.below, &self.overlay);
         self.ticket = None;
         Ok(())
     }
@@ -119,8 +108,7 @@ impl<'a, B: Bank> TrialBank<'a, B> {
         ensures answer { result ≡ end_answer (state B.Bank.meaning self.old) token }
         ensures after { state B.Bank.meaning self.new ≡ dropped (state B.Bank.meaning self.old) token.ticket }
         ensures undone { Undone (state B.Bank.meaning self.old) token.ticket result (state B.Bank.meaning self.new) }
-        ensures lent { self.new.below.ghost_name ≡ self.old.below.ghost_name }
-        ensures under { B.Bank.fixed self.new.below.now ≡ B.Bank.fixed self.old.below.now }
+        ensures same_below { SameBelow B.Bank.fixed self.old self.new }
     {
         self.spend(token)?;
         self.ticket = None; // the overlay counts no more
@@ -131,31 +119,23 @@ impl<'a, B: Bank> TrialBank<'a, B> {
     pub fn end(&mut self, token: Token, end: End) -> Result<(), Unspent>
         ensures answer { result ≡ end_answer (state B.Bank.meaning self.old) token }
         ensures after { state B.Bank.meaning self.new ≡ ended (state B.Bank.meaning self.old) token.ticket end }
-        ensures lent { self.new.below.ghost_name ≡ self.old.below.ghost_name }
-        ensures under { B.Bank.fixed self.new.below.now ≡ B.Bank.fixed self.old.below.now }
+        ensures same_below { SameBelow B.Bank.fixed self.old self.new }
     {
+        // One match: how a trial ends is data of the caller's.
         match end {
             End::Keep => self.keep(token),
             End::Drop => self.drop(token),
         }
     }
-
-    /// What the open trial wrote over the word at an address.
-    fn written(&self, address: usize) -> Option<u64>
-        ensures { result ≡ written self.now.ticket self.now.overlay (B.Bank.meaning self.now.below.now) address }
-    {
-        if self.ticket.is_some() && self.is_open(address) {
-            self.overlay[address]
-        } else {
-            None
-        }
-    }
 }
 
+#[tactic(auto, using(crate::proofs::Calls::through))]
 impl<'a, B: Bank> Bank for TrialBank<'a, B> {
     ghost meaning = { λ t. (state B.Bank.meaning t).shown };
 
     ghost fixed = { λ t. fixed_over B.Bank.meaning B.Bank.fixed t };
+
+    ghost few = { λ t. few_over t.ticket t.overlay (B.Bank.meaning t.below.now) (B.Bank.few t.below.now) };
 
     fn size(&self) -> usize {
         self.below.size()
@@ -167,7 +147,11 @@ impl<'a, B: Bank> Bank for TrialBank<'a, B> {
 
     fn read(&self, address: usize) -> Result<u64, Fault> {
         let word = self.below.read(address)?;
-        Ok(self.written(address).unwrap_or(word))
+        if self.ticket.is_some() && self.is_open(address) {
+            Ok(self.overlay[address].unwrap_or(word))
+        } else {
+            Ok(word)
+        }
     }
 
     fn write(&mut self, address: usize, value: u64) -> Result<(), Fault>
@@ -180,10 +164,9 @@ impl<'a, B: Bank> Bank for TrialBank<'a, B> {
         if !self.is_open(address) {
             return Err(Fault::Closed);
         }
-        if self.ticket.is_some() {
-            self.overlay[address] = Some(value);
-        } else {
-            self.below.write(address, value)?;
+        match self.ticket {
+            Some(_) => self.overlay[address] = Some(value),
+            None => self.below.write(address, value)?,
         }
         Ok(())
     }

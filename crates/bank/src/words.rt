@@ -1,5 +1,6 @@
 //! A bank over words that the caller lends.
 ghost use Rattle.std.specs.Prelude.{◌≡◌, take, drop};
+ghost use Rattle.bank.specs.Bounds.{few_words};
 ghost use Rattle.bank.specs.Store.{Lent, all_open};
 
 use crate::store::{Bank, MAX_WORDS};
@@ -18,6 +19,13 @@ impl<'a> WordBank<'a> {
     {
         WordBank { words }
     }
+
+    /// The words of the bank.
+    fn words(&self) -> &[u64]
+        ensures { result.now ≡ take 65536 self.now.words.now }
+    {
+        &self.words[..self.words.len().min(MAX_WORDS)]
+    }
 }
 
 impl<'a> Bank for WordBank<'a> {
@@ -25,8 +33,10 @@ impl<'a> Bank for WordBank<'a> {
 
     ghost fixed = { λ b. Lent b.words.ghost_name (drop 65536 b.words.now) };
 
+    ghost few = { λ b. few_words b.words.now };
+
     fn size(&self) -> usize {
-        self.words.len().min(MAX_WORDS)
+        self.words().len()
     }
 
     fn is_open(&self, address: usize) -> bool {
@@ -34,16 +44,12 @@ impl<'a> Bank for WordBank<'a> {
     }
 
     fn read(&self, address: usize) -> Result<u64, Fault> {
-        if address >= self.size() {
-            return Err(Fault::Address);
-        }
-        Ok(self.words[address])
+        self.words().get(address).copied().ok_or(Fault::Address)
     }
 
     fn write(&mut self, address: usize, value: u64) -> Result<(), Fault> {
-        if address >= self.size() {
-            return Err(Fault::Address);
-        }
+        // Asked by `read`: the slice may be longer than the bank.
+        self.read(address)?;
         self.words[address] = value;
         Ok(())
     }

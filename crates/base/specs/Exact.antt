@@ -1,5 +1,6 @@
 -- Faults are known by their numbers, and `==` on them is true exactly where the two are equal. Assumes nothing.
 use Rattle.std.specs.Prelude.{◌≡◌, ◌==◌, true, Bool, Decides}
+use Rattle.std.specs.Bool.{one_answer}
 use Rattle.std.proofs.Common.{arith, rules}
 use Rattle.base.specs.contracts.fault.FaultPartialEq.TheImpl as faults
 use Rattle.base.specs.declared.fault.Fault.{Fault}
@@ -21,3 +22,7 @@ same_fault = faults.ghosts.eq
 
 pub exact_same_fault : (a b : Fault) → Decides (same_fault a b) (a ≡ b)
 exact_same_fault a b = search rules
+
+-- and where the numbers are
+pub same_fault_number : (a b : Fault) → same_fault a b ≡ (number a == number b)
+same_fault_number a b = one_answer _ _ (exact_same_fault a b) (exact_fault a b)

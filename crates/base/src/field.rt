@@ -1,5 +1,5 @@
 //! One field of a word. Field 0 is the most significant.
-ghost use Rattle.std.specs.Prelude.{◌≡◌, ℕ, suc, ◌+◌, ◌-◌, ◌*◌, ◌/◌, ◌^◌, ◌<◌, ◌≤◌, ◌&&◌, ◌↔◌, IsSome, IfSome, if◌then◌else◌, Some, None, nat_lt};
+ghost use Rattle.std.specs.Prelude.{◌≡◌, suc, ◌+◌, ◌-◌, ◌*◌, ◌/◌, ◌^◌, ◌<◌, ◌≤◌, ◌&&◌, ◌↔◌, IsSome, IfSome, if◌then◌else◌, Some, None, nat_lt};
 ghost use Rattle.base.specs.Words.{bits, field, put, Replaced};
 
 use crate::width::Width;
@@ -45,6 +45,7 @@ impl Width {
         ensures there { IsSome result ↔ (index < 64 / bits self) }
         ensures same { IfSome result (λ f. (f.width ≡ self) × (f.index ≡ index)) }
     {
+        // An if: the closure of `then` would need its contract written out.
         if index < self.fields() {
             Some(Field { width: self, index })
         } else {

@@ -1,10 +1,11 @@
 //! All fields of a word at once.
-ghost use Rattle.std.specs.Prelude.{◌≡◌, ℕ, suc, ◌+◌, ◌-◌, ◌*◌, ◌/◌, ◌%◌, ◌^◌, ◌<◌, ◌≤◌, ◌&&◌, IfSome, if◌then◌else◌, Some, None, nat_lt};
-ghost use Rattle.base.specs.Words.{bits, IsWidth, field, word, put, Replaced, named, masked};
+ghost use Rattle.std.specs.Prelude.{◌≡◌, ℕ, ◌/◌, ◌%◌, ◌^◌, ◌<◌, if◌then◌else◌};
+ghost use Rattle.base.specs.Words.{bits, field, word, named, masked};
 
 use crate::field::Field;
 use crate::width::Width;
 
+// A trait: with a closure in its place, `zip_fields` would need a precondition, and no public function has one.
 /// What is worked out of the fields at one place of two words.
 pub trait FieldFunction {
     ghost meaning: { Self → ℕ → ℕ → ℕ };
@@ -40,6 +41,7 @@ pub fn zip_fields<F: FieldFunction>(width: Width, f: &F, a: u64, b: u64) -> u64
     let size = width.bits();
     let ones = width.ones();
     let mut r = 0;
+    // A loop: the closure of a fold would need its contract written out.
     for index in 0..width.fields() {
         let field = Field { width, index };
         let value = f.apply(field.get(a), field.get(b));

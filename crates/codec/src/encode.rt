@@ -40,8 +40,8 @@ impl Table {
     fn function(self, mnemonic: Mnemonic) -> u8
         ensures { Alone self mnemonic result }
     {
-        let row = self.rows().iter().position(|row| *row == Some(mnemonic));
-        row.unwrap_or(0) as u8
+        let place = self.rows().iter().position(|row| *row == Some(mnemonic));
+        place.unwrap_or(0) as u8
     }
 
     /// The word that decodes to the instruction. Refused where there is none.

@@ -5,6 +5,7 @@ ghost use Rattle.codec.specs.Decoded.{part, opcode_of, rd_of, ra_of, rb_of, ppp_
 #[derive(Clone, Copy)]
 pub(crate) struct Word(pub(crate) u32);
 
+// A method for each field: its contract names the definition of that field.
 impl Word {
     /// Bits `first` to `last`.
     fn part(self, first: u32, last: u32) -> u32

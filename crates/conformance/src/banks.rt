@@ -1,5 +1,6 @@
 //! Banks and trials beside a bank that is written another way: all its words in a vector, copied whole when a trial opens.
 ghost use Rattle.std.specs.Prelude.{◌≡◌};
+ghost use Rattle.bank.specs.Trials.{SameBelow};
 
 use crate::generator::Generator;
 use bank::{Bank, End, TrialBank, Unspent};
@@ -32,138 +33,144 @@ impl Model {
     }
 
     fn write(&mut self, address: usize, value: u64) -> Result<(), Fault> {
-        if address >= self.words.len() {
-            return Err(Fault::Address);
-        }
+        let word = self.words.get_mut(address).ok_or(Fault::Address)?;
         if address >= self.open {
             return Err(Fault::Closed);
         }
-        self.words[address] = value;
+        *word = value;
         Ok(())
     }
 }
 
-fn reads_alike(a: Result<u64, Fault>, b: Result<u64, Fault>) -> bool {
-    match (a, b) {
-        (Ok(x), Ok(y)) => x == y,
-        (Err(x), Err(y)) => x.number() == y.number(),
-        _ => false,
-    }
+/// How many differences were found.
+#[derive(Clone, Copy, Default)]
+pub struct Differences {
+    pub count: u32,
 }
 
-fn writes_alike(a: Result<(), Fault>, b: Result<(), Fault>) -> bool {
-    match (a, b) {
-        (Ok(()), Ok(())) => true,
-        (Err(x), Err(y)) => x.number() == y.number(),
-        _ => false,
+impl Differences {
+    /// Counts one where two answers are not alike.
+    fn note(&mut self, alike: bool) {
+        if !alike {
+            self.count = self.count.saturating_add(1);
+        }
     }
-}
 
-/// Whether one call is answered as the model answers it.
-fn is_alike<B: Bank>(bank: &mut B, model: &mut Model, numbers: &mut Generator) -> bool
-    ensures stays { B.Bank.fixed bank.new ≡ B.Bank.fixed bank.old }
-{
-    let address = numbers.address(model.words.len());
-    match numbers.below(4) {
-        0 => bank.size() == model.words.len(),
-        1 => bank.is_open(address) == model.is_open(address),
-        2 => reads_alike(bank.read(address), model.read(address)),
-        _ => {
-            let value = numbers.next();
-            writes_alike(bank.write(address, value), model.write(address, value))
+    /// Counts the places from `from` on at which two lists differ.
+    pub fn compare_lists<T: PartialEq>(&mut self, a: &[T], b: &[T], from: usize) {
+        for (x, y) in a.iter().zip(b).skip(from) {
+            self.note(*x == *y);
+        }
+    }
+
+    /// Counts the words of a bank that are not these.
+    fn compare<B: Bank>(&mut self, bank: &B, words: &[u64]) {
+        for (address, word) in words.iter().enumerate() {
+            self.note(bank.read(address) == Ok(*word));
         }
     }
 }
 
-/// Makes calls, and counts those that are answered differently.
-pub fn call<B: Bank>(bank: &mut B, model: &mut Model, numbers: &mut Generator) -> u32
-    ensures stays { B.Bank.fixed bank.new ≡ B.Bank.fixed bank.old }
-{
-    let mut differences = 0u32;
-    for _ in 0..CALLS {
-        if !is_alike(bank, model, numbers) {
-            differences = differences.saturating_add(1);
+/// A bank's model, the numbers that choose the calls, and what was found.
+#[derive(Drop)]
+pub struct Survey<'a> {
+    pub model: Model,
+    numbers: &'a mut Generator,
+    pub found: Differences,
+}
+
+impl<'a> Survey<'a> {
+    pub fn new(model: Model, numbers: &'a mut Generator) -> Self {
+        Survey {
+            model,
+            numbers,
+            found: Differences::default(),
         }
     }
-    differences
-}
 
-/// Counts the words of a bank that are not these.
-pub fn compare<B: Bank>(bank: &B, words: &[u64]) -> u32 {
-    let mut differences = 0u32;
-    for (address, word) in words.iter().enumerate() {
-        if !reads_alike(bank.read(address), Ok(*word)) {
-            differences = differences.saturating_add(1);
+    /// Makes one call, and counts it where the model answers it differently.
+    fn call<B: Bank>(&mut self, bank: &mut B)
+        ensures stays { B.Bank.fixed bank.new ≡ B.Bank.fixed bank.old }
+    {
+        let model = &mut self.model;
+        let address = self.numbers.address(model.words.len());
+        // The call is drawn by lot: an enum of the four would be made of the number by the same match.
+        let alike = match self.numbers.below(4) {
+            0 => bank.size() == model.words.len(),
+            1 => bank.is_open(address) == model.is_open(address),
+            2 => bank.read(address) == model.read(address),
+            _ => {
+                let value = self.numbers.next();
+                bank.write(address, value) == model.write(address, value)
+            }
+        };
+        self.found.note(alike);
+    }
+
+    /// Makes calls.
+    fn call_all<B: Bank>(&mut self, bank: &mut B)
+        ensures stays { B.Bank.fixed bank.new ≡ B.Bank.fixed bank.old }
+    {
+        for _ in 0..CALLS {
+            self.call(bank);
         }
     }
-    differences
-}
 
-/// A trial from its opening to its end, kept or dropped by chance, with calls before and in it.
-pub fn go_through<B: Bank>(
-    trial: &mut TrialBank<'_, B>,
-    model: &mut Model,
-    numbers: &mut Generator,
-) -> Result<u32, AllocError>
-    ensures lent { trial.new.below.ghost_name ≡ trial.old.below.ghost_name }
-    ensures under { B.Bank.fixed trial.new.below.now ≡ B.Bank.fixed trial.old.below.now }
-{
-    let mut differences = call(trial, model, numbers);
-    let saved = model.words.clone()?;
-    let Ok(token) = trial.open(numbers.below(3)) else {
-        return Ok(differences.saturating_add(1));
-    };
-    differences = differences.saturating_add(call(trial, model, numbers));
-    differences = differences.saturating_add(compare(trial.below(), &saved));
-    let end = numbers.end();
-    match trial.end(token, end) {
-        Ok(()) => {}
-        Err(_) => unreachable(),
+    /// A trial from its opening to its end, kept or dropped by chance, with calls before and in it.
+    fn go_through<B: Bank>(&mut self, trial: &mut TrialBank<'_, B>) -> Result<(), AllocError>
+        ensures same_below { SameBelow B.Bank.fixed trial.old trial.new }
+    {
+        self.call_all(trial);
+        let saved = self.model.words.clone()?;
+        let Ok(token) = trial.open(self.numbers.below(3)) else {
+            self.found.note(false);
+            return Ok(());
+        };
+        self.call_all(trial);
+        self.found.compare(trial.below(), &saved);
+        let end = self.numbers.end();
+        trial.end(token, end).unwrap();
+        if let End::Drop = end {
+            self.model.words = saved;
+        }
+        self.found.compare(trial.below(), &self.model.words);
+        Ok(())
     }
-    if let End::Drop = end {
-        model.words = saved;
-    }
-    differences = differences.saturating_add(compare(trial.below(), &model.words));
-    Ok(differences)
-}
 
-/// Trials over any bank.
-fn go_through_over<B: Bank>(
-    bank: &mut B,
-    model: &mut Model,
-    numbers: &mut Generator,
-) -> Result<u32, AllocError>
-    ensures stays { B.Bank.fixed bank.new ≡ B.Bank.fixed bank.old }
-{
-    let mut trial = TrialBank::new(bank);
-    go_through(&mut trial, model, numbers)
-}
-
-/// Trials in a trial that is dropped: the bank below does not change, and stands as it did.
-fn nest<B: Bank>(
-    lower: &mut TrialBank<'_, B>,
-    model: &mut Model,
-    numbers: &mut Generator,
-) -> Result<u32, AllocError> {
-    let saved = model.words.clone()?;
-    let Ok(token) = lower.open(0) else {
-        return Ok(1);
-    };
-    let upper = go_through_over(lower, model, numbers);
-    let shown = compare(lower, &model.words);
-    let below = compare(lower.below(), &saved);
-    match lower.drop(token) {
-        Ok(()) => {}
-        Err(_) => unreachable(),
+    /// Trials over any bank.
+    fn go_through_over<B: Bank>(&mut self, bank: &mut B) -> Result<(), AllocError>
+        ensures stays { B.Bank.fixed bank.new ≡ B.Bank.fixed bank.old }
+    {
+        self.go_through(&mut TrialBank::new(bank))
     }
-    let after = compare(lower, &saved);
-    model.words = saved;
-    Ok(
-        upper?
-            .saturating_add(shown)
-            .saturating_add(below)
-            .saturating_add(after),
-    )
+
+    /// Trials in a trial that is dropped: the bank below does not change, and stands as it did.
+    fn nest<B: Bank>(&mut self, lower: &mut TrialBank<'_, B>) -> Result<(), AllocError> {
+        let saved = self.model.words.clone()?;
+        let Ok(token) = lower.open(0) else {
+            self.found.note(false);
+            return Ok(());
+        };
+        let upper = self.go_through_over(lower);
+        self.found.compare(lower, &self.model.words);
+        self.found.compare(lower.below(), &saved);
+        lower.drop(token).unwrap();
+        self.found.compare(lower, &saved);
+        self.model.words = saved;
+        upper
+    }
+
+    /// Holds a bank, and trials over it, against the model.
+    pub fn hold<B: Bank>(&mut self, bank: &mut B) -> Result<(), AllocError> {
+        self.call_all(bank);
+        let mut trial = TrialBank::new(bank);
+        self.model.open = self.model.open.min(1024);
+        for _ in 0..ROUNDS {
+            self.go_through(&mut trial)?;
+            self.nest(&mut trial)?;
+        }
+        Ok(())
+    }
 }
 
 /// Gives the token of a trial to another trial bank: it comes back with 13, and ends its own trial then.
@@ -177,25 +184,6 @@ pub fn misplace<A: Bank, B: Bank>(
     let Err(Unspent { fault, token }) = there.keep(token) else {
         return 1;
     };
-    match here.drop(token) {
-        Ok(()) => {}
-        Err(_) => unreachable(),
-    }
-    if fault.number() == 13 { 0 } else { 1 }
-}
-
-/// Holds a bank, and trials over it, against the model.
-pub fn survey<B: Bank>(
-    bank: &mut B,
-    model: &mut Model,
-    numbers: &mut Generator,
-) -> Result<u32, AllocError> {
-    let mut differences = call(bank, model, numbers);
-    let mut trial = TrialBank::new(bank);
-    model.open = model.open.min(1024);
-    for _ in 0..ROUNDS {
-        differences = differences.saturating_add(go_through(&mut trial, model, numbers)?);
-        differences = differences.saturating_add(nest(&mut trial, model, numbers)?);
-    }
-    Ok(differences)
+    here.drop(token).unwrap();
+    u32::from(fault != Fault::NoSuchTrial || fault.number() != 13)
 }

@@ -4,8 +4,20 @@
 use crate::bits::{Registers, execute, mask};
 use crate::manual::Manual;
 use base::{Fault, Width, merge};
-use codec::{Class, Instruction, Mnemonic, NOP};
+use codec::{Class, Instruction, Mnemonic};
 use isa::{InstructionSet, Operation};
+
+/// What an illegal word is held to: an instruction that does nothing.
+const NOTHING: Instruction = Instruction {
+    mnemonic: Mnemonic::Vnop,
+    rd: 0,
+    ra: 0,
+    rb: 0,
+    amount: 0,
+    ppp: 0,
+    ww: 0,
+    address: 0,
+};
 
 impl Manual {
     /// Whether a record that may have no word is answered rightly: by a word that says just that, or by refusal 11.
@@ -27,7 +39,7 @@ impl Manual {
     pub fn answers_alike(&self, word: u32, before: &Registers) -> bool {
         let found = self.decode(word);
         self.table.decode(word) == found
-            && self.table.operation(word) == asked(&found.unwrap_or(NOP))
+            && self.table.operation(word) == asked(&found.unwrap_or(NOTHING))
             && self.written(word, before) == found.map_or(before.d, |i| execute(&i, before))
             && found.is_none_or(|i| self.table.encode(&i) == Ok(word))
     }

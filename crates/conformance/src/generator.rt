@@ -15,6 +15,7 @@ pub struct Generator {
 /// The bytes at which carries and signs change.
 const EDGES: [u8; 4] = [0x00, 0x7f, 0x80, 0xff];
 
+// What is drawn by lot is a match on a number: an enum would be made of the number by the same match.
 impl Generator {
     pub fn new(seed: u64) -> Generator {
         Generator { state: seed }

@@ -1,5 +1,5 @@
 //! The banks over lent words and lent bytes, each beside a model of its words.
-use crate::banks::{Model, misplace, survey};
+use crate::banks::{Model, Survey, misplace};
 use crate::generator::Generator;
 use bank::{ByteBank, TrialBank, WordBank};
 use std::alloc::{AllocError, Global};
@@ -7,68 +7,80 @@ use std::alloc::{AllocError, Global};
 /// The most words that a bank has.
 const LIMIT: usize = 65_536;
 
-/// Counts the places from `from` on at which two lists differ.
-fn count_changes<T: PartialEq + Copy>(new: &[T], old: &[T], from: usize) -> u32 {
-    let mut changes = 0u32;
-    for (a, b) in new.iter().zip(old.iter()).skip(from) {
-        if *a != *b {
-            changes = changes.saturating_add(1);
-        }
-    }
-    changes
+/// What is lent to a bank.
+pub trait Lent: Copy + PartialEq {
+    /// How many of these are a word.
+    const WORD: usize;
+
+    fn any(numbers: &mut Generator) -> Self;
+
+    /// The words of a bank over these.
+    fn words(heap: Global, lent: &[Self]) -> Result<Vec<u64>, AllocError>;
+
+    /// Surveys a bank over these.
+    fn hold(survey: &mut Survey<'_>, lent: &mut [Self]) -> Result<(), AllocError>;
 }
 
-/// The words of bytes, joined by shifts.
-fn joined(heap: Global, bytes: &[u8]) -> Result<Vec<u64>, AllocError> {
-    let mut words = Vec::new(heap);
-    let mut word = 0u64;
-    for (place, byte) in bytes.iter().enumerate() {
-        word = word << 8 | u64::from(*byte);
-        if place % 8 == 7 && words.len() < LIMIT {
-            words.push(word)?;
-        }
+impl Lent for u64 {
+    const WORD: usize = 1;
+
+    fn any(numbers: &mut Generator) -> u64 {
+        numbers.next()
     }
-    Ok(words)
+
+    fn words(heap: Global, lent: &[u64]) -> Result<Vec<u64>, AllocError> {
+        lent.iter().take(LIMIT).copied().collect(heap)
+    }
+
+    fn hold(survey: &mut Survey<'_>, lent: &mut [u64]) -> Result<(), AllocError> {
+        survey.hold(&mut WordBank::new(lent))
+    }
 }
 
-/// Holds a word bank over `count` words against its model, and counts the differences.
-pub fn survey_words(
+impl Lent for u8 {
+    const WORD: usize = 8;
+
+    fn any(numbers: &mut Generator) -> u8 {
+        numbers.below(256) as u8
+    }
+
+    /// Joined by shifts.
+    fn words(heap: Global, lent: &[u8]) -> Result<Vec<u64>, AllocError> {
+        lent.chunks_exact(8)
+            .take(LIMIT)
+            .map(|bytes| bytes
+                .iter()
+                .fold(0, |word, byte| word << 8 | u64::from(*byte)))
+            .collect(heap)
+    }
+
+    fn hold(survey: &mut Survey<'_>, lent: &mut [u8]) -> Result<(), AllocError> {
+        survey.hold(&mut ByteBank::new(lent))
+    }
+}
+
+/// Holds a bank over `count` elements against its model, and counts the differences.
+pub fn survey_lent<T: Lent>(
     heap: Global,
     count: usize,
     numbers: &mut Generator,
 ) -> Result<u32, AllocError> {
-    let mut lent = Vec::new(heap);
-    for _ in 0..count {
-        lent.push(numbers.next())?;
-    }
+    let mut lent: Vec<T> = (0..count).map(|_| T::any(numbers)).collect(heap)?;
     let old = lent.clone()?;
-    let words = old.iter().take(LIMIT).copied().collect(heap)?;
-    let mut model = Model { words, open: LIMIT };
-    let differences = survey(&mut WordBank::new(&mut lent), &mut model, numbers)?;
-    let words = count_changes(&lent, &model.words, 0);
-    let rest = count_changes(&lent, &old, LIMIT);
-    Ok(differences.saturating_add(words).saturating_add(rest))
-}
-
-/// Holds a byte bank over `count` bytes against its model, and counts the differences.
-pub fn survey_bytes(
-    heap: Global,
-    count: usize,
-    numbers: &mut Generator,
-) -> Result<u32, AllocError> {
-    let mut lent = Vec::new(heap);
-    for _ in 0..count {
-        lent.push(numbers.below(256) as u8)?;
-    }
-    let old = lent.clone()?;
-    let mut model = Model {
-        words: joined(heap, &old)?,
+    let model = Model {
+        words: T::words(heap, &old)?,
         open: LIMIT,
     };
-    let differences = survey(&mut ByteBank::new(&mut lent), &mut model, numbers)?;
-    let words = count_changes(&joined(heap, &lent)?, &model.words, 0);
-    let rest = count_changes(&lent, &old, model.words.len().saturating_mul(8));
-    Ok(differences.saturating_add(words).saturating_add(rest))
+    let mut survey = Survey::new(model, numbers);
+    T::hold(&mut survey, &mut lent)?;
+    let Survey {
+        model,
+        mut found,
+        ..
+    } = survey;
+    found.compare_lists(&T::words(heap, &lent)?, &model.words, 0);
+    found.compare_lists(&lent, &old, model.words.len().saturating_mul(T::WORD));
+    Ok(found.count)
 }
 
 /// Gives a token to the wrong trial bank.

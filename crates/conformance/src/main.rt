@@ -16,7 +16,7 @@ use banks::SURVEY_CALLS;
 use cases::Case;
 use generator::Generator;
 use isa::marked_cases;
-use lent::{misplace_token, survey_bytes, survey_words};
+use lent::{misplace_token, survey_lent};
 use manual::{CARDINAL, GOLD, Manual};
 use std::alloc::AllocError;
 use std::num::Saturating;
@@ -38,6 +38,7 @@ fn main(rt: HostRuntime) -> anyhow::Result<()> {
     if differences.0 > 0 {
         return Err(anyhow!("the instruction sets differ from their manuals"));
     }
+    // `render` asks so too: no crate lies below the two programs alone.
     let asked = env::args(&rt).is_ok_and(|words| words
         .skip(1)
         .any(|word| word.as_str() == "banks"));
@@ -53,10 +54,10 @@ fn try_banks(rt: &(impl Print + AllocGlobal)) -> anyhow::Result<u32> {
     let mut differences = Saturating(misplace_token());
     println!(rt; "a token for the wrong trial bank: {differences} differences")?;
     differences += try_sizes(rt, "word", &[0, 1, 5, 1030, 65_540], |count| {
-        survey_words(rt.alloc(), count, &mut numbers)
+        survey_lent::<u64>(rt.alloc(), count, &mut numbers)
     })?;
     differences += try_sizes(rt, "byte", &[0, 7, 8, 20, 8243, 524_300], |count| {
-        survey_bytes(rt.alloc(), count, &mut numbers)
+        survey_lent::<u8>(rt.alloc(), count, &mut numbers)
     })?;
     Ok(differences.0)
 }

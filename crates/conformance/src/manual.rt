@@ -19,6 +19,7 @@ pub struct Manual {
 /// and `m` an address.
 struct Row([u8; 32], Mnemonic);
 
+// Each set has its rows in full, to be read beside its manual.
 pub static GOLD: Manual = Manual {
     table: Table::Gold,
     rows: [

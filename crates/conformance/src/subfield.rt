@@ -143,6 +143,7 @@ impl Subfield {
         Subfield::from_fn(self.width, |i| if i < by { fill } else { self.bit(i - by) })
     }
 
+    // Two methods, as the two products that call them: one would take a flag for which half.
     pub fn first_half(&self) -> Subfield {
         Subfield::read(self.bits, 0, self.width / 2)
     }

@@ -41,6 +41,7 @@ fn product(half: Half, reach: Width, a: u64, b: u64) -> u64
 fn blockwise(mnemonic: Mnemonic, amount: u8, reach: Width, a: u64, b: u64) -> u64
     ensures { result ≡ blockwise mnemonic amount (bits reach) a b }
 {
+    // One match: the mnemonic is data, and a table of functions would be such a match too.
     match mnemonic {
         Mnemonic::Vand => a & b,
         Mnemonic::Vor => a | b,

@@ -5,6 +5,7 @@ ghost use Rattle.isa.specs.Operations.{mask_of, width_of, doubled, reach_of, cal
 use base::Width;
 use codec::{Class, Instruction, Shape, Span};
 
+// One record for every class: the laws of a set speak of the reach, rD and the address of every word.
 /// What a word asks for. What it lacks is none or 0. Loads, stores and branches use rD.
 #[derive(Clone, Copy, PartialEq, Eq, Debug)]
 pub struct Operation {
@@ -29,6 +30,7 @@ static MASKS: [u8; 5] = [
     0b0101_0101,
 ];
 
+// PPP and WW are numbers here as in an instruction, where any number can stand.
 fn mask_of(ppp: u8) -> u8
     ensures { result ≡ mask_of ppp }
 {

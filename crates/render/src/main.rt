@@ -14,7 +14,7 @@ use haze::tell_trials;
 use isa::InstructionSet;
 use listing::Listed;
 use std::{array, env, io};
-use tiles::{PIXELS, Shades, Strip, heights, heights_at};
+use tiles::{PIXELS, Shades, Strip, heights, heights_at, tell_makers};
 
 /// Relief shading in eight lanes of a byte. r1 has the heights, r2 those of the next pixel to the east, r3 the light,
 /// r9 the haze that the makers of the lower four lanes ordered. r8 takes the shaded pixels.
@@ -51,11 +51,11 @@ impl Registers {
     }
 
     fn read(&self, register: u8) -> u64 {
-        self.0[register as usize % 32]
+        self.0[usize::from(register) % 32]
     }
 
     fn write(&mut self, register: u8, value: u64) {
-        self.0[register as usize % 32] = value;
+        self.0[usize::from(register) % 32] = value;
     }
 
     /// Works the calculation that a word asks for; none where it asks for something else.
@@ -104,11 +104,7 @@ fn shade(rt: &impl Print, pixel: usize) -> io::Result<u64> {
 }
 
 fn show(rt: &impl Print, words: &[u64; PIXELS]) -> io::Result<()> {
-    for maker in 0..8 {
-        let strip = Strip(Shades { maker, words });
-        println!(rt; "  maker {maker} {strip}")?;
-    }
-    Ok(())
+    tell_makers(rt, |maker| Strip(Shades { maker, words }))
 }
 
 /// Works the kernel at every pixel of the row.
@@ -127,6 +123,7 @@ fn main(rt: HostRuntime) -> io::Result<()> {
     show(&rt, &heights())?;
     println!(rt; "pixels after")?;
     show(&rt, &row)?;
+    // `conformance` asks so too: no crate lies below the two programs alone.
     let asked = env::args(&rt).is_ok_and(|words| words
         .skip(1)
         .any(|word| word.as_str() == "trials"));

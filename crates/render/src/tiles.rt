@@ -1,6 +1,6 @@
 //! One row of the tiles of eight makers, woven into words: pixel x of maker k is byte k of word x.
 use base::Width;
-use std::{array, fmt};
+use std::{array, fmt, io};
 
 pub const PIXELS: usize = 8;
 
@@ -70,4 +70,17 @@ impl fmt::Display for Strip<'_> {
         }
         write!(f, "  {}", self.0)
     }
+}
+
+/// Prints a line for each maker.
+pub fn tell_makers<T: fmt::Display + Drop, F: Fn(u32) -> T>(
+    rt: &impl Print,
+    line: F,
+) -> io::Result<()>
+    requires { F.IsAlwaysCallable line }
+{
+    for maker in 0..8 {
+        println!(rt; "  maker {maker} {}", line(maker))?;
+    }
+    Ok(())
 }

@@ -1,10 +1,18 @@
 //! A haze over the row, tried before it is made: dropped, kept, and kept in one trial that stands over another.
 ghost use Rattle.std.specs.Prelude.{◌≡◌};
-ghost use Rattle.bank.specs.Trials.{state};
+ghost use Rattle.bank.specs.Trials.{SameBelow, state};
 
 use crate::tiles::PIXELS;
 use bank::{Bank, End, TrialBank};
 use base::Fault;
+use std::array;
+
+/// A haze, and the ticket of the trial that tries it.
+#[derive(Clone, Copy)]
+pub struct Attempt {
+    pub ticket: u32,
+    pub haze: u64,
+}
 
 /// What a trial shows, and what stands below it meanwhile.
 #[derive(Clone, Copy)]
@@ -13,26 +21,25 @@ pub struct View {
     pub below: [u64; PIXELS],
 }
 
-/// The words of the row.
-pub fn row<B: Bank>(bank: &B) -> [u64; PIXELS] {
-    let mut row = [0; PIXELS];
-    for pixel in 0..PIXELS {
-        row[pixel] = bank.read(pixel).unwrap_or(0);
+impl<B: Bank> From<&TrialBank<'_, B>> for View {
+    fn from(trial: &TrialBank<'_, B>) -> View {
+        View {
+            shown: row(trial),
+            below: row(trial.below()),
+        }
     }
-    row
 }
 
-fn look<B: Bank>(trial: &TrialBank<'_, B>) -> View {
-    View {
-        shown: row(trial),
-        below: row(trial.below()),
-    }
+/// The words of the row.
+pub fn row<B: Bank>(bank: &B) -> [u64; PIXELS] {
+    array::from_fn(|pixel| bank.read(pixel).unwrap_or(0))
 }
 
 /// Lays the haze over each word of the row.
 fn lay<B: Bank>(bank: &mut B, haze: u64) -> Result<(), Fault>
     ensures stays { B.Bank.fixed bank.new ≡ B.Bank.fixed bank.old }
 {
+    // By number: a bank has its words by address only.
     for pixel in 0..PIXELS {
         let word = bank.read(pixel)?;
         bank.write(pixel, word | haze)?;
@@ -43,31 +50,25 @@ fn lay<B: Bank>(bank: &mut B, haze: u64) -> Result<(), Fault>
 /// Tries the haze, and ends the trial. Dropped, it leaves the bank as it was, whatever the bank.
 pub fn try_haze<B: Bank>(
     trial: &mut TrialBank<'_, B>,
-    ticket: u32,
-    haze: u64,
+    attempt: Attempt,
     end: End,
 ) -> Result<View, Fault>
     ensures dropped { end ≡ End.Drop → state B.Bank.meaning trial.new ≡ state B.Bank.meaning trial.old }
-    ensures lent { trial.new.below.ghost_name ≡ trial.old.below.ghost_name }
-    ensures under { B.Bank.fixed trial.new.below.now ≡ B.Bank.fixed trial.old.below.now }
+    ensures same_below { SameBelow B.Bank.fixed trial.old trial.new }
 {
-    let token = trial.open(ticket)?;
-    let laid = lay(trial, haze);
-    let view = look(trial);
-    match trial.end(token, end) {
-        Ok(()) => {}
-        Err(_) => unreachable(),
-    }
+    let token = trial.open(attempt.ticket)?;
+    let laid = lay(trial, attempt.haze);
+    let view = View::from(&*trial);
+    trial.end(token, end).unwrap();
     laid?;
     Ok(view)
 }
 
 /// Tries the haze on any bank, and keeps it.
-fn keep_over<B: Bank>(bank: &mut B, ticket: u32, haze: u64) -> Result<View, Fault>
+fn keep_over<B: Bank>(bank: &mut B, attempt: Attempt) -> Result<View, Fault>
     ensures stays { B.Bank.fixed bank.new ≡ B.Bank.fixed bank.old }
 {
-    let mut trial = TrialBank::new(bank);
-    try_haze(&mut trial, ticket, haze, End::Keep)
+    try_haze(&mut TrialBank::new(bank), attempt, End::Keep)
 }
 
 /// What a trial over another showed, and what the lower one showed once the upper one was kept.
@@ -80,20 +81,15 @@ pub struct Nested {
 /// Keeps the haze in a trial over this one, and drops this one: whatever the bank, it is left as it was.
 pub fn keep_in_a_dropped<B: Bank>(
     lower: &mut TrialBank<'_, B>,
-    ticket: u32,
-    haze: u64,
+    attempt: Attempt,
 ) -> Result<Nested, Fault>
     ensures after { state B.Bank.meaning lower.new ≡ state B.Bank.meaning lower.old }
-    ensures lent { lower.new.below.ghost_name ≡ lower.old.below.ghost_name }
-    ensures under { B.Bank.fixed lower.new.below.now ≡ B.Bank.fixed lower.old.below.now }
+    ensures same_below { SameBelow B.Bank.fixed lower.old lower.new }
 {
-    let token = lower.open(ticket)?;
-    let kept = keep_over(lower, ticket, haze);
-    let view = look(lower);
-    match lower.drop(token) {
-        Ok(()) => {}
-        Err(_) => unreachable(),
-    }
+    let token = lower.open(attempt.ticket)?;
+    let kept = keep_over(lower, attempt);
+    let view = View::from(&*lower);
+    lower.drop(token).unwrap();
     Ok(Nested {
         upper: kept?,
         lower: view,

@@ -1,22 +1,10 @@
-use Rattle.std.proofs.Common.{sym, refl}
-use Rattle.std.proofs.lemmas.Result.{err_from_is_err_and}
-use Rattle.std.proofs.lemmas.Bool.{cond-true, cond-false}
+use Rattle.std.proofs.Common.{rules}
 use Rattle.bank.specs.Trials.{state}
-use Rattle.bank.proofs.Calls.{own, not_own}
-use Rattle.bank.proofs.Rounds.{is_undone}
+use Rattle.bank.proofs.Rounds.{refused_undone, is_undone}
 use Rattle.bank.proofs.trial.TrialBank.drop.Goals as goal
 
-pub returns-in_err-spend : goal.returns-in_err-spend
-returns-in_err-spend g c =
-    let t = state g.B.Bank.meaning c.args.self.now in
-    let p = err_from_is_err_and c.from_residual.result c.from_residual.ensures.1 in
-    let e = c.in_err-spend.ensures in
-    let after = sym (cond-false _ _ _ (not_own t c.args.token _ e)) in
-    rw (p.1, p.2) (record { answer = e; after = after; undone = is_undone t t c.args.token _ e after; lent = refl; under = refl })
+pub returns-in_err-spend-clause-undone : goal.returns-in_err-spend-clause-undone
+returns-in_err-spend-clause-undone g c = refused_undone (state g.B.Bank.meaning c.args.self.now) c.args.token _ _ _ c.in_err-spend.ensures
 
-pub returns : goal.returns
-returns g c =
-    let t = state g.B.Bank.meaning c.args.self.now in
-    let e = c.in_ok-spend.ensures in
-    let after = sym (cond-true _ _ _ (own t c.args.token e)) in
-    record { answer = e; after = after; undone = is_undone t _ c.args.token _ e after; lent = refl; under = refl }
+pub returns-clause-undone : goal.returns-clause-undone
+returns-clause-undone g c = is_undone (state g.B.Bank.meaning c.args.self.now) _ c.args.token.ticket (search rules)

@@ -1,5 +1,5 @@
-use Rattle.std.proofs.Common.{arith, length-take}
+use Rattle.bank.specs.Bounds.{few_words}
 use Rattle.bank.proofs.words.WordBankBank.size.Goals as goal
 
-pub returns : goal.returns
-returns c = record { value = omega (arith, length-take 65536 c.args.self.now.words.now); few = omega arith }
+pub returns-clause-few : goal.returns-clause-few
+returns-clause-few c = rw c.words.ensures (few_words c.args.self.now.words.now)

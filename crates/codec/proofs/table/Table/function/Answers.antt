@@ -24,5 +24,5 @@ first t m (Some k) h = alone t k m (h.1 None)
 pub returns : goal.returns
 returns c =
     let m = c.args.mnemonic in
-    rw c.unwrap_or.ensures (first c.args.self m c.position-row.result
-    (IsFirst-from_position _ _ _ (λ o. o ≡ Some m) (λ o. o ≡ Some m → ⊥) c.position-row.ensures.ran (YieldsList-from_slice (rows c.args.self) cc) (λ x q k. search (rules, tests)) (λ x q k. search (rules, tests))))
+    rw c.unwrap_or.ensures (first c.args.self m c.position-place.result
+    (IsFirst-from_position _ _ _ (λ o. o ≡ Some m) (λ o. o ≡ Some m → ⊥) c.position-place.ensures.ran (YieldsList-from_slice (rows c.args.self) cc) (λ x q k. search (rules, tests)) (λ x q k. search (rules, tests))))

@@ -1,5 +1,5 @@
 use Rattle.std.proofs.Common.{◌≡◌}
-use Rattle.conformance.proofs.banks.call.Given as goal
+use Rattle.conformance.proofs.banks.Survey.call_all.Given as goal
 
 -- what is fixed of the bank stays so
 abbrev pub invariant-loop : goal.invariant-loop
