@@ -1,6 +1,6 @@
-use Rattle.std.proofs.Common.{◌≡◌, refl, ap, ◌∙◌, arith}
+use Rattle.std.proofs.Common.{refl, ap, ◌∙◌}
 use Rattle.bank.specs.Store.{write_at}
-use Rattle.bank.proofs.Overlays.{carried, carried_none, skipped, written_below, carried_all}
+use Rattle.bank.proofs.Overlays.{carried_none, skipped, written_below}
 use Rattle.bank.proofs.trial.settle.Goals.{in-Some, in_default}
 use Rattle.bank.proofs.trial.settle.Goals as goal
 
@@ -20,10 +20,3 @@ loop-address-preserved g c =
       })
       | in_default w ↦ rw w.bank-is (record { words = now.words ∙ skipped os s i w.in_default.is; stays = now.stays })
     ]
-
-pub returns-clause-after : goal.returns-clause-after
-returns-clause-after g c =
-    let os = c.args.overlay.now in
-    let s = g.B.Bank.meaning c.args.bank.now in
-    let e : c.loop-address.address ≡ 1024 = omega arith in
-    c.loop-address.invariant.words ∙ ap (carried os s) e ∙ carried_all os s
