@@ -4,7 +4,7 @@ use lib.Seq.{take-set-lt}
 use Rattle.std.proofs.Math.Nat.{min_comm}
 use Rattle.std.proofs.lemmas.List.{take_min}
 use Rattle.std.proofs.lemmas.Bool.Decides.{nat_tests}
-use Rattle.std.specs.Option.{ok_or, option_copied}
+use Rattle.std.specs.Option.{ok_or}
 use Rattle.std.specs.Slice.{IsItemAt}
 use Rattle.base.specs.declared.fault.Fault.{Fault}
 use Rattle.base.specs.declared.fault.Fault.TheVariants.{Address}
@@ -24,9 +24,9 @@ module _ (ws : List ℕ) (a : ℕ) where
   write_below v h = grind (arith, nat_tests)
 
 -- what `get` finds is what a read answers
-pub copied_get : (ws : List ℕ) (a : ℕ) (o : Option (Bor ℕ)) → IsItemAt ws a o → ok_or (option_copied o) Address ≡ read_at (all_open ws) a
-copied_get ws a None found = grind (arith, nat_tests)
-copied_get ws a (Some x) found = grind (arith, nat_tests)
+pub got_read : (ws : List ℕ) (a : ℕ) (o : Option (Bor ℕ)) (x : Bor ℕ) → IsItemAt ws a o → ok_or o Address ≡ Ok x → Ok x.now ≡ read_at (all_open ws) a
+got_read ws a None x found e = absurd cc
+got_read ws a (Some y) x found e = grind (arith, nat_tests)
 
 -- the first k, or as many as there are
 pub take_first : {X : Type 0} (k n : ℕ) (xs : List X) → n ≡ min (length xs) k → take n xs ≡ take k xs

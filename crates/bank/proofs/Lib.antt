@@ -1,4 +1,5 @@
 pub mod AllOpen
+pub mod Bounds
 pub mod Calls
 pub mod Groups
 pub mod Overlays

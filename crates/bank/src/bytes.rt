@@ -1,7 +1,6 @@
 //! A bank over bytes that the caller lends.
 ghost use Rattle.std.specs.Prelude.{◌≡◌, ℕ, ◌+◌, ◌*◌, ◌<◌, ◌≤◌, ◌⊎◌, map, slice_index};
 ghost use Rattle.std.specs.Int.{w64, from_be_bytes};
-ghost use Rattle.bank.specs.Bounds.{few_bytes};
 ghost use Rattle.bank.specs.Bytes.{words_of, rest_of, bytes_after};
 ghost use Rattle.bank.specs.Store.{Lent, all_open, write_answer, write_at};
 
@@ -35,8 +34,6 @@ impl<'a> Bank for ByteBank<'a> {
     ghost meaning = { λ b. all_open (words_of b.bytes.now) };
 
     ghost fixed = { λ b. Lent b.bytes.ghost_name (rest_of b.bytes.now) };
-
-    ghost few = { λ b. few_bytes b.bytes.now };
 
     fn size(&self) -> usize {
         self.words().len()

@@ -33,7 +33,4 @@ pub trait Bank {
         ensures answer { result ≡ write_answer (meaning self.old) address }
         ensures after { meaning self.new ≡ write_at (meaning self.old) address value }
         ensures stays { fixed self.new ≡ fixed self.old };
-
-    // How many words a bank has at most; code over any bank knows it of every address that is there.
-    ghost few: { (b : Self) → size (meaning b) ≤ 65536 };
 }

@@ -3,7 +3,6 @@ ghost use Rattle.std.specs.Prelude.{◌≡◌};
 ghost use Rattle.bank.specs.Store.{write_answer, write_at};
 ghost use Rattle.bank.specs.Steps.{settled};
 ghost use Rattle.bank.specs.Trials.{state, fixed_over, standing, open_answer, opened, wrote, end_answer, kept, dropped, ended, SameBelow, Undone, Done};
-ghost use Rattle.bank.specs.Bounds.{few_over};
 
 use crate::store::Bank;
 use crate::token::{End, Token, Unspent};
@@ -134,8 +133,6 @@ impl<'a, B: Bank> Bank for TrialBank<'a, B> {
     ghost meaning = { λ t. (state B.Bank.meaning t).shown };
 
     ghost fixed = { λ t. fixed_over B.Bank.meaning B.Bank.fixed t };
-
-    ghost few = { λ t. few_over t.ticket t.overlay (B.Bank.meaning t.below.now) (B.Bank.few t.below.now) };
 
     fn size(&self) -> usize {
         self.below.size()

@@ -1,6 +1,5 @@
 //! A bank over words that the caller lends.
 ghost use Rattle.std.specs.Prelude.{◌≡◌, take, drop};
-ghost use Rattle.bank.specs.Bounds.{few_words};
 ghost use Rattle.bank.specs.Store.{Lent, all_open};
 
 use crate::store::{Bank, MAX_WORDS};
@@ -33,8 +32,6 @@ impl<'a> Bank for WordBank<'a> {
 
     ghost fixed = { λ b. Lent b.words.ghost_name (drop 65536 b.words.now) };
 
-    ghost few = { λ b. few_words b.words.now };
-
     fn size(&self) -> usize {
         self.words().len()
     }
@@ -44,7 +41,8 @@ impl<'a> Bank for WordBank<'a> {
     }
 
     fn read(&self, address: usize) -> Result<u64, Fault> {
-        self.words().get(address).copied().ok_or(Fault::Address)
+        let word = self.words().get(address).ok_or(Fault::Address)?;
+        Ok(*word)
     }
 
     fn write(&mut self, address: usize, value: u64) -> Result<(), Fault> {

@@ -42,6 +42,11 @@ impl Model {
     }
 }
 
+/// An answer with the number of its refusal, so that answers are not compared by `==` on faults.
+fn numbered<T>(answer: Result<T, Fault>) -> Result<T, u8> {
+    answer.map_err(Fault::number)
+}
+
 /// How many differences were found.
 #[derive(Clone, Copy, Default)]
 pub struct Differences {
@@ -50,7 +55,7 @@ pub struct Differences {
 
 impl Differences {
     /// Counts one where two answers are not alike.
-    fn note(&mut self, alike: bool) {
+    pub fn note(&mut self, alike: bool) {
         if !alike {
             self.count = self.count.saturating_add(1);
         }
@@ -98,10 +103,10 @@ impl<'a> Survey<'a> {
         let alike = match self.numbers.below(4) {
             0 => bank.size() == model.words.len(),
             1 => bank.is_open(address) == model.is_open(address),
-            2 => bank.read(address) == model.read(address),
+            2 => numbered(bank.read(address)) == numbered(model.read(address)),
             _ => {
                 let value = self.numbers.next();
-                bank.write(address, value) == model.write(address, value)
+                numbered(bank.write(address, value)) == numbered(model.write(address, value))
             }
         };
         self.found.note(alike);

@@ -1,9 +1,9 @@
-//! What the instruction sets answer, beside what the manual's patterns say. What is worked out here from a pattern shares
-//! with the instruction sets the types of the answers, and no code.
+//! What the instruction sets answer, beside what the manual's patterns say. What is worked out here from a pattern, and how
+//! the two are compared, shares with the instruction sets the types of the answers, and no code.
 
 use crate::bits::{Registers, execute, mask};
 use crate::manual::Manual;
-use base::{Fault, Width, merge};
+use base::{Fault, merge};
 use codec::{Class, Instruction, Mnemonic};
 use isa::{InstructionSet, Operation};
 
@@ -23,7 +23,9 @@ impl Manual {
     /// Whether a record that may have no word is answered rightly: by a word that says just that, or by refusal 11.
     pub fn encodes_rightly(&self, instruction: &Instruction) -> bool {
         match self.table.encode(instruction) {
-            Ok(word) => self.decode(word) == Some(*instruction),
+            Ok(word) => self
+                .decode(word)
+                .is_some_and(|found| is_same(instruction, &found)),
             Err(fault) => fault == Fault::NoSuchInstruction && fault.number() == 11,
         }
     }
@@ -38,26 +40,48 @@ impl Manual {
     /// what VNOP asks for), what it leaves in rD, and that its instruction is encoded back.
     pub fn answers_alike(&self, word: u32, before: &Registers) -> bool {
         let found = self.decode(word);
-        self.table.decode(word) == found
-            && self.table.operation(word) == asked(&found.unwrap_or(NOTHING))
+        decodes_alike(self.table.decode(word), found)
+            && asks_alike(&self.table.operation(word), &found.unwrap_or(NOTHING))
             && self.written(word, before) == found.map_or(before.d, |i| execute(&i, before))
             && found.is_none_or(|i| self.table.encode(&i) == Ok(word))
     }
 }
 
-/// What an instruction asks for.
-fn asked(i: &Instruction) -> Operation {
-    let class = class(i.mnemonic);
-    let calculates = class == Class::Calculate;
-    Operation {
-        class,
-        rd: i.rd,
-        ra: calculates.then_some(i.ra),
-        rb: (calculates && reads_two(i.mnemonic)).then_some(i.rb),
-        address: i.address,
-        mask: if calculates { mask(i.ppp) } else { 0 },
-        reach: reach(i),
+/// Whether both decoders read a word alike.
+fn decodes_alike(meant: Option<Instruction>, found: Option<Instruction>) -> bool {
+    match (meant, found) {
+        (Some(meant), Some(found)) => is_same(&meant, &found),
+        (None, None) => true,
+        _ => false,
     }
+}
+
+// Field by field: `==` on these records is the sets' own code, and encoding asks it too.
+/// Whether two records have the same mnemonic and the same numbers.
+fn is_same(a: &Instruction, b: &Instruction) -> bool {
+    a.mnemonic as u8 == b.mnemonic as u8
+        && a.rd == b.rd
+        && a.ra == b.ra
+        && a.rb == b.rb
+        && a.amount == b.amount
+        && a.ppp == b.ppp
+        && a.ww == b.ww
+        && a.address == b.address
+}
+
+/// Whether all that a word asks for is what its pattern says.
+fn asks_alike(asked: &Operation, i: &Instruction) -> bool {
+    let class = class(i.mnemonic);
+    let calculates = class as u8 == Class::Calculate as u8;
+    asked.class as u8 == class as u8
+        && asked.rd == i.rd
+        && asked.ra == i.ra
+        && asked.rb == i.rb
+        && asked.reads_a == calculates
+        && asked.reads_b == (calculates && reads_two(i.mnemonic))
+        && asked.address == i.address
+        && asked.mask == (if calculates { mask(i.ppp) } else { 0 })
+        && asked.reach.bits() == reach(i)
 }
 
 fn class(mnemonic: Mnemonic) -> Class {
@@ -86,26 +110,15 @@ fn reads_two(mnemonic: Mnemonic) -> bool {
     )
 }
 
-fn width(ww: u8) -> Width {
-    match ww {
-        0 => Width::W8,
-        1 => Width::W16,
-        2 => Width::W32,
-        _ => Width::W64,
-    }
-}
-
-fn reach(i: &Instruction) -> Width {
+/// How far a block of the result looks.
+fn reach(i: &Instruction) -> u32 {
+    let width = 8u32 << (i.ww % 4);
     match i.mnemonic {
-        Mnemonic::Vand | Mnemonic::Vor | Mnemonic::Vxor | Mnemonic::Vnot | Mnemonic::Vmov => {
-            Width::W8
-        }
+        Mnemonic::Vand | Mnemonic::Vor | Mnemonic::Vxor | Mnemonic::Vnot | Mnemonic::Vmov => 8,
         Mnemonic::Vmuleu | Mnemonic::Vmulou | Mnemonic::Vsqeu | Mnemonic::Vsqou => {
-            width(i.ww.saturating_add(1))
+            width.wrapping_mul(2)
         }
-        Mnemonic::Vld | Mnemonic::Vsd | Mnemonic::Vbez | Mnemonic::Vbnez | Mnemonic::Vnop => {
-            Width::W8
-        }
-        _ => width(i.ww),
+        Mnemonic::Vld | Mnemonic::Vsd | Mnemonic::Vbez | Mnemonic::Vbnez | Mnemonic::Vnop => 8,
+        _ => width,
     }
 }

@@ -1,5 +1,5 @@
 //! The banks over lent words and lent bytes, each beside a model of its words.
-use crate::banks::{Model, Survey, misplace};
+use crate::banks::{Differences, Model, Survey, misplace};
 use crate::generator::Generator;
 use bank::{ByteBank, TrialBank, WordBank};
 use std::alloc::{AllocError, Global};
@@ -17,8 +17,18 @@ pub trait Lent: Copy + PartialEq {
     /// The words of a bank over these.
     fn words(heap: Global, lent: &[Self]) -> Result<Vec<u64>, AllocError>;
 
+    /// Counts the words of a bank over these that are not the model's. It takes no memory.
+    fn compare(found: &mut Differences, lent: &[Self], words: &[u64]);
+
     /// Surveys a bank over these.
     fn hold(survey: &mut Survey<'_>, lent: &mut [Self]) -> Result<(), AllocError>;
+}
+
+/// The word of eight bytes, joined by shifts.
+fn joined(bytes: &[u8]) -> u64 {
+    bytes
+        .iter()
+        .fold(0, |word, byte| word << 8 | u64::from(*byte))
 }
 
 impl Lent for u64 {
@@ -30,6 +40,10 @@ impl Lent for u64 {
 
     fn words(heap: Global, lent: &[u64]) -> Result<Vec<u64>, AllocError> {
         lent.iter().take(LIMIT).copied().collect(heap)
+    }
+
+    fn compare(found: &mut Differences, lent: &[u64], words: &[u64]) {
+        found.compare_lists(lent, words, 0);
     }
 
     fn hold(survey: &mut Survey<'_>, lent: &mut [u64]) -> Result<(), AllocError> {
@@ -44,14 +58,14 @@ impl Lent for u8 {
         numbers.below(256) as u8
     }
 
-    /// Joined by shifts.
     fn words(heap: Global, lent: &[u8]) -> Result<Vec<u64>, AllocError> {
-        lent.chunks_exact(8)
-            .take(LIMIT)
-            .map(|bytes| bytes
-                .iter()
-                .fold(0, |word, byte| word << 8 | u64::from(*byte)))
-            .collect(heap)
+        lent.chunks_exact(8).take(LIMIT).map(joined).collect(heap)
+    }
+
+    fn compare(found: &mut Differences, lent: &[u8], words: &[u64]) {
+        for (bytes, word) in lent.chunks_exact(8).zip(words) {
+            found.note(joined(bytes) == *word);
+        }
     }
 
     fn hold(survey: &mut Survey<'_>, lent: &mut [u8]) -> Result<(), AllocError> {
@@ -78,7 +92,7 @@ pub fn survey_lent<T: Lent>(
         mut found,
         ..
     } = survey;
-    found.compare_lists(&T::words(heap, &lent)?, &model.words, 0);
+    T::compare(&mut found, &lent, &model.words);
     found.compare_lists(&lent, &old, model.words.len().saturating_mul(T::WORD));
     Ok(found.count)
 }

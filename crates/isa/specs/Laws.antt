@@ -1,6 +1,5 @@
 -- Both sets keep the laws of an instruction set. Assumes nothing.
-use Rattle.std.specs.Prelude.{◌≡◌, ℕ, ◌/◌, ◌%◌, ◌^◌, ◌<◌, Bool, true, false, Some, None, IfSome, Option, refl}
-use Rattle.std.specs.Bool.{then_some}
+use Rattle.std.specs.Prelude.{◌≡◌, ℕ, ◌/◌, ◌%◌, ◌^◌, ◌<◌, false, Some, None, Option, refl}
 use Rattle.std.proofs.Common.{sym, ap, ap₂, ◌∙◌, arith}
 use Rattle.base.proofs.Fields.{field-word}
 use Rattle.base.proofs.Widths.{is_width}
@@ -12,7 +11,7 @@ use Rattle.codec.specs.declared.instruction.Shape.TheVariants.{Two, One, Immedia
 use Rattle.isa.specs.declared.operation.Operation.{Operation}
 use Rattle.codec.specs.declared.table.Table.{Table}
 use Rattle.isa.specs.Calculated.{on_block, reaches_of, outcome}
-use Rattle.codec.specs.Decoded.{ra_of, rb_of, second, decoded}
+use Rattle.codec.specs.Decoded.{rb_of, second, decoded}
 use Rattle.isa.specs.Operations.{calculates, reads_second, asked}
 use Rattle.isa.specs.Sets.{Lawful, set_of}
 use Rattle.codec.specs.Tables.{kind_of}
@@ -28,29 +27,29 @@ blocks (Some i) a b c d k h p q =
     let W = is_width (asked (Some i)).reach in
     field-word W (λ j. f (field r j a) (field r j b)) k h ∙ ap₂ (λ x y. f x y % 2 ^ r) p q ∙ sym (field-word W (λ j. f (field r j c) (field r j d)) k h)
 
-second_unread : (m : Mnemonic) (n r p q q' b : ℕ) → then_some (reads_second (kind_of m).shape) b ≡ None → on_block m n r p q ≡ on_block m n r p q'
-second_unread m n r p q q' b h = grind arith
+second_unread : (m : Mnemonic) (n r p q q' : ℕ) → reads_second (kind_of m).shape ≡ false → on_block m n r p q ≡ on_block m n r p q'
+second_unread m n r p q q' h = grind arith
 
-first_unread : (m : Mnemonic) (n r p p' q b : ℕ) → then_some (calculates (kind_of m).shape) b ≡ None → on_block m n r p q ≡ on_block m n r p' q
-first_unread m n r p p' q b h = grind arith
+first_unread : (m : Mnemonic) (n r p p' q : ℕ) → calculates (kind_of m).shape ≡ false → on_block m n r p q ≡ on_block m n r p' q
+first_unread m n r p p' q h = grind arith
 
-unread_a : (o : Option Instruction) (a b c : ℕ) → (asked o).ra ≡ None → outcome o a b ≡ outcome o c b
+unread_a : (o : Option Instruction) (a b c : ℕ) → (asked o).reads_a ≡ false → outcome o a b ≡ outcome o c b
 unread_a None a b c h = refl
 unread_a (Some i) a b c h =
     let r : ℕ = reaches_of i in
-    ap (word r) (λ t j. first_unread i.mnemonic i.amount r (field r j a) (field r j c) (field r j b) i.ra h t)
+    ap (word r) (λ t j. first_unread i.mnemonic i.amount r (field r j a) (field r j c) (field r j b) h t)
 
-unread_b : (o : Option Instruction) (a b c : ℕ) → (asked o).rb ≡ None → outcome o a b ≡ outcome o a c
+unread_b : (o : Option Instruction) (a b c : ℕ) → (asked o).reads_b ≡ false → outcome o a b ≡ outcome o a c
 unread_b None a b c h = refl
 unread_b (Some i) a b c h =
     let r : ℕ = reaches_of i in
-    ap (word r) (λ t j. second_unread i.mnemonic i.amount r (field r j a) (field r j b) (field r j c) i.rb h t)
+    ap (word r) (λ t j. second_unread i.mnemonic i.amount r (field r j a) (field r j b) (field r j c) h t)
 
 -- the numbers of an operation are in range
 record InRange (o : Operation) : Type 0 where
   rd : o.rd < 32
-  ra : IfSome o.ra (λ r. r < 32)
-  rb : IfSome o.rb (λ r. r < 32)
+  ra : o.ra < 32
+  rb : o.rb < 32
   address : o.address < 65536
 
 register : (s : Shape) (b : ℕ) → b < 32 → second s b < 32
@@ -60,16 +59,12 @@ register Immediate b h = omega arith
 register Address b h = omega arith
 register Bare b h = omega arith
 
-if_read : (b : Bool) (r : ℕ) → r < 32 → IfSome (then_some b r) (λ r. r < 32)
-if_read true r h = h
-if_read false r h = tt
-
 in_range : (t : Table) (v : ℕ) → InRange (asked (decoded t v))
 in_range t v = decodes (λ o. InRange (asked o)) t v record {
-  illegal = record { rd = omega arith; ra = tt; rb = tt; address = omega arith };
-  calculates = λ m op at class ok. record { rd = omega arith; ra = if_read (calculates (kind_of m).shape) (ra_of v) (omega arith); rb = if_read (reads_second (kind_of m).shape) _ (register (kind_of m).shape (rb_of v) (omega arith)); address = omega arith };
-  transfers = λ m o op at zero. record { rd = omega arith; ra = if_read (calculates (kind_of m).shape) 0 (omega arith); rb = if_read (reads_second (kind_of m).shape) 0 (omega arith); address = omega arith };
-  rests = λ is. record { rd = omega arith; ra = tt; rb = tt; address = omega arith };
+  illegal = record { rd = omega arith; ra = omega arith; rb = omega arith; address = omega arith };
+  calculates = λ m op at class ok. record { rd = omega arith; ra = omega arith; rb = register (kind_of m).shape (rb_of v) (omega arith); address = omega arith };
+  transfers = λ m o op at zero. record { rd = omega arith; ra = omega arith; rb = omega arith; address = omega arith };
+  rests = λ is. record { rd = omega arith; ra = omega arith; rb = omega arith; address = omega arith };
 }
 
 pub lawful : (t : Table) → Lawful (set_of t)

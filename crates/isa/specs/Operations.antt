@@ -1,6 +1,5 @@
 -- What an instruction asks for.
 use Rattle.std.specs.Prelude.{ℕ, Bool, true, false, cond, [], ◌∷◌, Some, None, Option, slice_index, slice_index_or}
-use Rattle.std.specs.Bool.{then_some}
 use Rattle.base.specs.declared.width.Width.{Width}
 use Rattle.base.specs.declared.width.Width.TheVariants.{W8, W16, W32, W64}
 use Rattle.codec.specs.declared.instruction.Instruction.{Instruction}
@@ -51,8 +50,10 @@ abbrev pub described : Instruction → Operation
 described i = let k = kind_of i.mnemonic in record {
   class = k.class;
   rd = i.rd;
-  ra = then_some (calculates k.shape) i.ra;
-  rb = then_some (reads_second k.shape) i.rb;
+  ra = i.ra;
+  rb = i.rb;
+  reads_a = calculates k.shape;
+  reads_b = reads_second k.shape;
   address = i.address;
   mask = cond (calculates k.shape) (mask_of i.ppp) 0;
   reach = reach_of k.span i.ww;

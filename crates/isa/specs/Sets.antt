@@ -1,5 +1,5 @@
 -- An instruction set by its meaning, and the laws that it owes. Contents have 64 bits.
-use Rattle.std.specs.Prelude.{◌≡◌, ℕ, ◌/◌, ◌^◌, ◌<◌, None, IfSome}
+use Rattle.std.specs.Prelude.{◌≡◌, ℕ, ◌/◌, ◌^◌, ◌<◌, false}
 use Rattle.base.specs.Words.{bits, field, masked}
 use Rattle.isa.specs.declared.operation.Operation.{Operation}
 use Rattle.codec.specs.declared.table.Table.{Table}
@@ -25,12 +25,12 @@ pub record Lawful (s : Set) : Type 0 where
   pub blocks : (v a b c d i : ℕ) → a < 2 ^ 64 → b < 2 ^ 64 → c < 2 ^ 64 → d < 2 ^ 64 → i < blocks_of s v
       → block s v i a ≡ block s v i c → block s v i b ≡ block s v i d → block s v i (s.result v a b) ≡ block s v i (s.result v c d)
   -- a register that is not read has no influence
-  pub unread_a : (v a b c : ℕ) → a < 2 ^ 64 → b < 2 ^ 64 → c < 2 ^ 64 → (s.operation v).ra ≡ None → s.result v a b ≡ s.result v c b
-  pub unread_b : (v a b c : ℕ) → a < 2 ^ 64 → b < 2 ^ 64 → c < 2 ^ 64 → (s.operation v).rb ≡ None → s.result v a b ≡ s.result v a c
+  pub unread_a : (v a b c : ℕ) → a < 2 ^ 64 → b < 2 ^ 64 → c < 2 ^ 64 → (s.operation v).reads_a ≡ false → s.result v a b ≡ s.result v c b
+  pub unread_b : (v a b c : ℕ) → a < 2 ^ 64 → b < 2 ^ 64 → c < 2 ^ 64 → (s.operation v).reads_b ≡ false → s.result v a b ≡ s.result v a c
   -- registers and addresses are in range
   pub rd_below : (v : ℕ) → (s.operation v).rd < 32
-  pub ra_below : (v : ℕ) → IfSome (s.operation v).ra (λ r. r < 32)
-  pub rb_below : (v : ℕ) → IfSome (s.operation v).rb (λ r. r < 32)
+  pub ra_below : (v : ℕ) → (s.operation v).ra < 32
+  pub rb_below : (v : ℕ) → (s.operation v).rb < 32
   pub address_below : (v : ℕ) → (s.operation v).address < 65536
 
 -- Gold or Cardinal, by its table

@@ -69,6 +69,8 @@ fn blockwise(mnemonic: Mnemonic, amount: u8, reach: Width, a: u64, b: u64) -> u6
 }
 
 /// The result of an instruction.
+// Not inlined, so that `result` is: where the word stays the same, a caller's loop then decodes it once.
+#[inline(never)]
 pub(crate) fn calculated(i: &Instruction, a: u64, b: u64) -> u64
     ensures { result ≡ calculated i.now a b }
 {

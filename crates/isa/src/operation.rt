@@ -6,15 +6,16 @@ use base::Width;
 use codec::{Class, Instruction, Shape, Span};
 
 // One record for every class: the laws of a set speak of the reach, rD and the address of every word.
-/// What a word asks for. What it lacks is none or 0. Loads, stores and branches use rD.
+/// What a word asks for. What it lacks is 0 or no. Loads, stores and branches use rD.
 #[derive(Clone, Copy, PartialEq, Eq, Debug)]
 pub struct Operation {
     pub class: Class,
     pub rd: u8,
-    /// The first register that a calculation reads.
-    pub ra: Option<u8>,
-    /// The second one.
-    pub rb: Option<u8>,
+    // Flags beside the numbers: an Option would not tell the number of a register that is not read.
+    pub ra: u8,
+    pub rb: u8,
+    pub reads_a: bool,
+    pub reads_b: bool,
     pub address: u16,
     /// The bytes that a calculation writes: the most significant bit stands for byte 0.
     pub mask: u8,
@@ -90,8 +91,10 @@ impl From<Instruction> for Operation {
         Operation {
             class: kind.class,
             rd: i.rd,
-            ra: calculates.then_some(i.ra),
-            rb: reads_second(kind.shape).then_some(i.rb),
+            ra: i.ra,
+            rb: i.rb,
+            reads_a: calculates,
+            reads_b: reads_second(kind.shape),
             address: i.address,
             mask: if calculates { mask_of(i.ppp) } else { 0 },
             reach: reach_of(kind.span, i.ww),

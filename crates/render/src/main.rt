@@ -64,8 +64,8 @@ impl Registers {
         if asked.class != Class::Calculate {
             return None;
         }
-        let a = asked.ra.map_or(0, |register| self.read(register));
-        let b = asked.rb.map_or(0, |register| self.read(register));
+        let a = self.read(asked.ra);
+        let b = self.read(asked.rb);
         let result = Table::Gold.result(word, a, b);
         let value = merge(asked.mask, result, self.read(asked.rd));
         self.write(asked.rd, value);

@@ -73,7 +73,7 @@ impl fmt::Display for Strip<'_> {
 }
 
 /// Prints a line for each maker.
-pub fn tell_makers<T: fmt::Display + Drop, F: Fn(u32) -> T>(
+pub(crate) fn tell_makers<T: fmt::Display + Drop, F: Fn(u32) -> T>(
     rt: &impl Print,
     line: F,
 ) -> io::Result<()>

@@ -1,7 +1,7 @@
 use Rattle.std.proofs.Common.{length, ap, arith}
 use Rattle.std.proofs.lemmas.List.{length-map}
 use Rattle.std.specs.Int.{w64, from_be_bytes}
-use Rattle.bank.specs.Bounds.{few_bytes}
+use Rattle.bank.proofs.Bounds.{few_bytes}
 use Rattle.bank.proofs.bytes.ByteBankBank.size.Goals as goal
 
 pub returns-clause-few : goal.returns-clause-few

@@ -1,10 +1,8 @@
-use Rattle.std.proofs.Common.{take, ap, ◌∙◌}
-use Rattle.std.specs.Option.{ok_or}
-use Rattle.base.specs.declared.fault.Fault.TheVariants.{Address}
-use Rattle.bank.proofs.AllOpen.{copied_get}
+use Rattle.std.proofs.Common.{take, sym, ◌∙◌}
+use Rattle.bank.proofs.AllOpen.{got_read}
 use Rattle.bank.proofs.words.WordBankBank.read.Goals as goal
 
 pub returns : goal.returns
 returns c =
     let found = rw c.words.ensures at c.get.ensures.lookup in
-    c.ok_or.ensures.value ∙ ap (λ o. ok_or o Address) c.copied.ensures ∙ copied_get (take 65536 c.args.self.now.words.now) c.args.address _ found
+    got_read (take 65536 c.args.self.now.words.now) c.args.address _ c.in_ok-word.word found (sym c.ok_or.ensures.value ∙ c.in_ok-word.was)

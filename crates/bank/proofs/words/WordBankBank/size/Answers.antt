@@ -1,4 +1,4 @@
-use Rattle.bank.specs.Bounds.{few_words}
+use Rattle.bank.proofs.Bounds.{few_words}
 use Rattle.bank.proofs.words.WordBankBank.size.Goals as goal
 
 pub returns-clause-few : goal.returns-clause-few
