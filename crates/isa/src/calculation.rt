@@ -2,7 +2,7 @@
 ghost use Rattle.std.specs.Prelude.{◌≡◌, ◌%◌, min};
 ghost use Rattle.base.specs.Words.{bits, field, word};
 ghost use Rattle.alu.specs.Blocks.{product};
-ghost use Rattle.isa.specs.Calculated.{immediate, blockwise, calculated};
+ghost use Rattle.isa.specs.Calculated.{immediate, blockwise, calculated, outcome};
 
 use crate::operation::reach_of;
 use alu::{
@@ -69,11 +69,16 @@ fn blockwise(mnemonic: Mnemonic, amount: u8, reach: Width, a: u64, b: u64) -> u6
 }
 
 /// The result of an instruction.
-// Not inlined, so that `result` is: where the word stays the same, a caller's loop then decodes it once.
-#[inline(never)]
-pub(crate) fn calculated(i: &Instruction, a: u64, b: u64) -> u64
+fn calculated(i: &Instruction, a: u64, b: u64) -> u64
     ensures { result ≡ calculated i.now a b }
 {
     let reach = reach_of(i.mnemonic.kind().span, i.ww);
     blockwise(i.mnemonic, i.amount, reach, a, b)
+}
+
+/// The result of a decoded word; an illegal one has none.
+pub(crate) fn result_of(meant: Option<Instruction>, a: u64, b: u64) -> u64
+    ensures { result ≡ outcome meant a b }
+{
+    meant.map_or(0, |i| calculated(&i, a, b))
 }

@@ -3,7 +3,7 @@ ghost use Rattle.std.specs.Prelude.{◌≡◌};
 ghost use Rattle.isa.specs.Sets.{Set, Lawful, set_of};
 ghost use Rattle.isa.specs.Laws;
 
-use crate::calculation::calculated;
+use crate::calculation::result_of;
 use crate::operation::Operation;
 use codec::{NOP, Table};
 
@@ -33,6 +33,10 @@ impl InstructionSet for Table {
     }
 
     fn result(&self, word: u32, a: u64, b: u64) -> u64 {
-        self.decode(word).map_or(0, |i| calculated(&i, a, b))
+        // An arm for each set: so `result` is small enough to be inlined, and a loop over one word decodes it once.
+        match self {
+            Table::Gold => result_of(Table::Gold.decode(word), a, b),
+            Table::Cardinal => result_of(Table::Cardinal.decode(word), a, b),
+        }
     }
 }
